@@ -16,7 +16,7 @@ use Rattle.law_model.specs.declared.script_types.ItemKind.TheVariants.{Frame, Ad
 use Rattle.text_scripts.proofs.ScriptDraftGrowthLaws.{All-none, no_losses, rising-none, frames-append, commands-append}
 use Rattle.text_scripts.specs.make_load.Load.{length_of, frame_of, after_frame, addition, additions, frames}
 use Rattle.text_scripts.specs.make_load.Load.{frame_count, load}
-use Rattle.law_model.specs.Common.{longest_delay}
+use Rattle.law_model.specs.Common.{longest_delay, longest_offer}
 use Rattle.law_rates.specs.Draws.{next, drawn, draws, after_draws}
 use Rattle.law_rates.proofs.DrawLaws.{length-draws, draws_below}
 
@@ -51,6 +51,14 @@ pub additions_next : (before : List Item) (line : ℕ) → before ≡ additions 
 additions_next before line is =
     ap (λ (l : List Item). l ++ addition line ∷ []) is
     ∙ sym (map-range_with_len_more addition 0 line line (let e : 0 + line ≡ line = omega arith in e))
+
+-- a frame may be offered
+pub short_frame : (octets : List ℕ) (state : ℕ) → octets ≡ frame_of state → length octets ≤ longest_offer
+short_frame octets state is =
+    let same = ap (λ (l : List ℕ). length l) is in
+    let size = length-draws (length_of state) 256 (next state) in
+    let less : drawn (next state) 1455 < 1455 = mod_below (next state / 2 ^ 33) 1455 (omega arith) in
+    omega (arith, same, size, less)
 
 -- ---- each item
 additions_all : (P : Item → Type 0) (lines : ℕ) → ((line : ℕ) → line < lines → P (addition line)) →

@@ -28,7 +28,7 @@ use Rattle.text_scripts.specs.script_read.ScriptInPieces.{IsUntested}
 use Rattle.law_model.specs.declared.script_types.ItemKind.TheVariants as item
 use Rattle.text_scripts.specs.declared.script_read.script_draft.Statement.TheVariants as says
 use Rattle.text_scripts.specs.declared.script_read.script_fault.ScriptFault.TheVariants as fault
-use Rattle.law_model.specs.Common.{longest_slip, most_packets, most_windows}
+use Rattle.law_model.specs.Common.{longest_slip, most_items, most_packets, most_windows}
 
 -- ---- One more at the end of a list: of numbers that never fall, of items, of windows.
 pub All-none : {X : Type 0} (P : X → Type 0) → All P []
@@ -563,7 +563,7 @@ lag_fits c none =
     ]
 
 -- ---- the script
-pub IsValid-draft : (d : Draft) → IsDraft d → 6 ≤ d.next → length d.items ≤ 67108864 → config_fault d.config ≡ None →
+pub IsValid-draft : (d : Draft) → IsDraft d → 6 ≤ d.next → length d.items ≤ most_items → config_fault d.config ≡ None →
     IsValid (script_in d)
 IsValid-draft d is whole few none =
     let has = is.config in
@@ -594,7 +594,7 @@ IsValid-draft d is whole few none =
     }
 
 -- what its lines say, before slips, spread and lag are tested
-pub IsUntested-draft : (d : Draft) → IsDraft d → 6 ≤ d.next → length d.items ≤ 67108864 → IsUntested (script_in d)
+pub IsUntested-draft : (d : Draft) → IsDraft d → 6 ≤ d.next → length d.items ≤ most_items → IsUntested (script_in d)
 IsUntested-draft d is whole few = record {
   few = (let lines = is.config.lines (omega (arith, whole)) in omega (arith, lines.1, is.config.few));
   windows = is.config.windows;

@@ -1,6 +1,6 @@
 //! The script of a load.
-ghost use Rattle.std.specs.Prelude.{◌≡◌, ◌≤◌, ◌++◌, IfOk, OnOk};
-ghost use Rattle.law_model.specs.Common.{IsValid, IsWithin, most_drawn_ticks};
+ghost use Rattle.std.specs.Prelude.{◌≡◌, ◌≤◌, ◌++◌, length, IfOk, OnOk};
+ghost use Rattle.law_model.specs.Common.{IsValid, IsWithin, most_drawn_ticks, longest_offer};
 ghost use Rattle.text_scripts.specs.make_load.Load.{frame_of, after_frame, additions, frames, frame_count, load};
 
 use crate::make_load::load_draws::{draw_delays, draw_octets};
@@ -10,8 +10,10 @@ use law_rates::Draws;
 use std::alloc::{AllocError, Global};
 
 /// A frame: its length, and its octets.
+#[tactic(auto, using(crate::proofs::DrawnLoadLaws::short_frame))]
 fn frame(alloc: Global, draws: &mut Draws) -> Result<Octets, AllocError>
     ensures octets { IfOk result (λ octets. octets ≡ frame_of draws.old.state) }
+    ensures short { IfOk result (λ octets. length octets ≤ longest_offer) }
     ensures state { OnOk result (draws.new.state ≡ after_frame draws.old.state) }
 {
     let count = 64 + draws.below(1455) as usize;
@@ -20,10 +22,11 @@ fn frame(alloc: Global, draws: &mut Draws) -> Result<Octets, AllocError>
 
 /// The addition of each line.
 #[tactic(auto, using(crate::proofs::DrawnLoadLaws::additions_next))]
-fn add_lines(alloc: Global, lines: u8) -> Result<Vec<Item>, AllocError>
-    ensures { IfOk result (λ items. items.items ≡ additions lines) }
+fn add_lines(alloc: Global, lines: u8) -> Result<ItemList, AllocError>
+    ensures items { IfOk result (λ items. items ≡ additions lines) }
+    ensures few { IfOk result (λ items. length items ≤ lines) }
 {
-    let mut items = Vec::new(alloc);
+    let mut items = ItemList::new(alloc);
     for line in 0..lines {
         items.push(Item {
             due: 0,
@@ -37,13 +40,14 @@ fn add_lines(alloc: Global, lines: u8) -> Result<Vec<Item>, AllocError>
 #[tactic(auto, using(crate::proofs::DrawnLoadLaws::frames_next, crate::proofs::DrawnLoadLaws::frames_end))]
 fn add_frames(
     alloc: Global,
-    items: &mut Vec<Item>,
+    items: &mut ItemList,
     ticks: u32,
     draws: &mut Draws,
 ) -> Result<(), AllocError>
-    requires { ticks ≤ most_drawn_ticks }
+    requires ticks { ticks ≤ most_drawn_ticks }
+    requires few { length items.old ≤ 255 }
     ensures { OnOk result
-        (items.new.items ≡ items.old.items ++ frames (frame_count ticks) 0 draws.old.state) }
+        (items.new ≡ items.old ++ frames (frame_count ticks) 0 draws.old.state) }
 {
     for k in 0..ticks.div_ceil(8) {
         let octets = frame(alloc, draws)?;
@@ -77,7 +81,7 @@ fn draw(alloc: Global, number: u64, lines: u8, ticks: u32) -> Result<Script, All
             size: 2340,
             options: Options::default(),
         },
-        items: ItemList(items),
+        items,
         events: EventList(Vec::new(alloc)),
     })
 }

@@ -1,5 +1,7 @@
 //! What a line adds to a draft.
-ghost use Rattle.std.specs.Prelude.{◌≡◌, ◌<◌, ◌∷◌, ◌++◌, [], length, OnOk, slice_index_or, slice_set};
+ghost use Rattle.std.specs.Prelude.{◌≡◌, ◌<◌, ◌≤◌, ◌∷◌, ◌++◌, [], length, OnOk, slice_index_or, slice_set};
+ghost use Rattle.law_model.specs.Common.{most_items, longest_offer};
+ghost use Rattle.law_model.specs.session.Items.{octets_in_kind};
 ghost use Rattle.text_scripts.specs.script_read.Statements.{after, after_item, at_first};
 ghost use Rattle.text_scripts.specs.script_read.Drafts.{IsDraft, Fits};
 
@@ -38,7 +40,7 @@ pub(super) fn no_lines(alloc: Global) -> Draft
             size: 2340,
             options: Options::default(),
         },
-        items: ItemList(Vec::new(alloc)),
+        items: ItemList::new(alloc),
         events: EventList(Vec::new(alloc)),
         frame_due: 0,
         command_due: 0,
@@ -51,6 +53,8 @@ pub(super) fn no_lines(alloc: Global) -> Draft
 
 /// Adds an item.
 fn add_item(draft: &mut Draft, item: Item) -> Result<(), AllocError>
+    requires few { length draft.old.items < most_items }
+    requires short { octets_in_kind item.kind ≤ longest_offer }
     ensures { OnOk result (draft.new ≡ after_item draft.old item item.kind) }
 {
     match item.kind {
@@ -58,7 +62,7 @@ fn add_item(draft: &mut Draft, item: Item) -> Result<(), AllocError>
         ItemKind::Add(_) | ItemKind::Remove(_) => draft.command_due = item.due,
     }
     draft.next = 8;
-    draft.items.0.push(item)?;
+    draft.items.push(item)?;
     Ok(())
 }
 
@@ -66,6 +70,7 @@ fn add_item(draft: &mut Draft, item: Item) -> Result<(), AllocError>
 pub(super) fn add(alloc: Global, draft: &mut Draft, said: Statement) -> Result<(), AllocError>
     requires config { IsDraft draft.old }
     requires fits { Fits draft.old said }
+    requires few { length draft.old.items < most_items }
     ensures { OnOk result (draft.new ≡ after draft.old said) }
 {
     match said {
