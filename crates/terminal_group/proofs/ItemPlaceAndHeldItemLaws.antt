@@ -10,9 +10,11 @@ use Rattle.law_model.specs.declared.script_types.ItemKind.{ItemKind}
 use Rattle.law_model.specs.declared.script_types.ItemKind.TheVariants.{Frame, Add, Remove}
 use Rattle.terminal_group.specs.ItemPlaces.{is_frame, is_command, place_of, due_by, least_held}
 use Rattle.std.specs.List.Sorted.{IsNonDecreasing}
-use Rattle.std.proofs.lemmas.List.{drop_all}
-use Rattle.law_model.proofs.ListLaws.{drop-next, rest-in_order}
-use Rattle.terminal_group.specs.Item.{bare_kind, bare_items}
+use Rattle.std.proofs.lemmas.List.{drop_all, map-append}
+use Rattle.law_model.specs.declared.script_items.item_list.ItemHead.{ItemHead}
+use Rattle.law_model.specs.session.Items.{sort_of, head_of}
+use Rattle.law_model.proofs.ListLaws.{drop-next, rest-in_order, slice_get-inside, take-one}
+use Rattle.terminal_group.specs.Item.{bare, bare_kind, bare_sort, bare_of, bare_items}
 
 -- ---- Where the next item of a kind stands, how many of its kind are before it, and when it is due.
 -- ---- the next place is the first after this one
@@ -449,3 +451,28 @@ pub command-blind : (kind : ItemKind) → is_command (bare_kind kind) ≡ is_com
 command-blind (Frame octets) = refl
 command-blind (Add line) = refl
 command-blind (Remove line) = refl
+
+-- ---- The items are copied by their heads, one by one.
+bare-sort : (kind : ItemKind) → bare_sort (sort_of kind) ≡ bare_kind kind
+bare-sort (Frame octets) = refl
+bare-sort (Add line) = refl
+bare-sort (Remove line) = refl
+
+bare-next : (items : List Item) (number : ℕ) (head : ItemHead) → number < length items →
+    ((item : Item) → slice_get items number ≡ Some item → head ≡ head_of item) →
+    bare_items (take number items) ++ bare_of head ∷ [] ≡ bare_items (take (number + 1) items)
+bare-next items number head inside is =
+    let (item, there) = slice_get-inside items number inside in
+    let same : bare_of head ≡ bare item = ap bare_of (is item there)
+    ∙ ap (λ (kind : ItemKind). record { due = item.due; kind = kind }) (bare-sort item.kind) in
+    ap (λ (one : Item). bare_items (take number items) ++ one ∷ []) same
+    ∙ sym (map-append bare (take number items) (item ∷ []))
+    ∙ ap bare_items (sym (take-one items number item there))
+
+pub bare-copied : (items was now : List Item) (number : ℕ) (head : ItemHead) (one : Item) → number < length items →
+    ((item : Item) → slice_get items number ≡ Some item → head ≡ head_of item) → one ≡ bare_of head →
+    was ≡ bare_items (take number items) → now ≡ was ++ one ∷ [] → now ≡ bare_items (take (number + 1) items)
+bare-copied items was now number head one inside is copied before more =
+    more ∙ ap (λ (l : List Item). l ++ one ∷ []) before
+    ∙ ap (λ (item : Item). bare_items (take number items) ++ item ∷ []) copied
+    ∙ bare-next items number head inside is

@@ -4,7 +4,7 @@ use Rattle.std.proofs.Common.{length, take, drop, slice_get, get_or, if◌then�
 use Rattle.std.proofs.Common.{inr, refl, sym, ◌∙◌, ap, subst, arith, append_assoc, ltb-true, length-append}
 use Rattle.std.proofs.lemmas.Bool.{cases_Bool, cases_lt}
 use Rattle.std.proofs.lemmas.List.Elements.{All-cons, All-append, All-head, All-tail}
-use Rattle.law_model.specs.Common.{due_of, dues_of, frame_dues, command_dues}
+use Rattle.law_model.specs.Common.{due_of, dues_of, frame_dues, command_dues, most_items}
 use Rattle.law_model.specs.declared.script_types.Item.{Item}
 use Rattle.law_model.specs.declared.script_types.ItemKind.{ItemKind}
 use Rattle.law_model.specs.declared.item_refusals.Refusal.{Refusal}
@@ -275,7 +275,7 @@ next-kind landed false item there =
     operator-command item.kind (place-found is_command landed.items landed.commands item there).0
 
 -- nothing has landed
-pub none-yet : (items : List Item) (frame command space : ℕ) → length items ≤ 67108864 →
+pub none-yet : (items : List Item) (frame command space : ℕ) → length items ≤ most_items →
     IsNonDecreasing (frame_dues (dues_of items)) → IsNonDecreasing (command_dues (dues_of items)) →
     frame ≡ 0 + place_of is_frame 0 items → command ≡ 0 + place_of is_command 0 items → space ≡ length items →
     IsLanded (none_landed items) frame command space

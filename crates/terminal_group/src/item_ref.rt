@@ -1,9 +1,10 @@
 //! What lands, as it is handed in.
 
 ghost use Rattle.std.specs.Prelude.{◌≡◌};
+ghost use Rattle.law_model.specs.session.Items.{lent_kind};
 ghost use Rattle.terminal_group.specs.Item.{kind_of};
 
-use law_model::ItemKind;
+use law_model::{FrameRoom, ItemKind, Lent};
 
 /// An item that is handed in.
 #[derive(Clone, Copy, Debug)]
@@ -16,14 +17,15 @@ pub enum ItemRef<'a> {
     Remove(u8),
 }
 
-/// An item of this kind, as it is handed in.
-pub fn handed(kind: &ItemKind) -> ItemRef<'_>
-    ensures { kind_of result ≡ kind.now }
+/// An item that is lent, as it is handed in. The room is the one that it was lent with.
+pub fn lent_item<'a>(lent: Lent<'a>, room: &'a FrameRoom) -> ItemRef<'a>
+    ensures { kind_of result ≡ lent_kind lent.entry room.now }
 {
-    match kind {
-        ItemKind::Frame(octets) => ItemRef::Frame(&octets.0),
-        ItemKind::Add(line) => ItemRef::Add(*line),
-        ItemKind::Remove(line) => ItemRef::Remove(*line),
+    match lent {
+        Lent::Kept(ItemKind::Frame(octets)) => ItemRef::Frame(&octets.0),
+        Lent::Kept(ItemKind::Add(line)) => ItemRef::Add(*line),
+        Lent::Kept(ItemKind::Remove(line)) => ItemRef::Remove(*line),
+        Lent::Drawn => ItemRef::Frame(room.octets()),
     }
 }
 

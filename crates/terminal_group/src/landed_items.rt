@@ -11,7 +11,7 @@ ghost use Rattle.terminal_group.specs.Landed.{HasPassed, AreOthers, AreBefore, A
 
 use crate::bare_item::BareItem;
 use crate::landing_order::{held_item, next_command, next_frame};
-use law_model::{Item, Refusal, Script};
+use law_model::{ItemList, Refusal, Refusals, Script};
 use std::alloc::{AllocError, Global};
 use std::marker::Model;
 
@@ -58,7 +58,7 @@ impl Model for Landing {
 
 impl Landing {
     /// Nothing of these items has landed.
-    fn new(alloc: Global, items: &[Item]) -> Result<Landing, AllocError>
+    fn new(alloc: Global, items: &ItemList) -> Result<Landing, AllocError>
         requires few { length items.now ≤ most_items }
         requires frames { IsNonDecreasing (frame_dues (dues_of items.now)) }
         requires commands { IsNonDecreasing (command_dues (dues_of items.now)) }
@@ -85,7 +85,7 @@ impl Landing {
         requires { IsValid script.now }
         ensures { IfOk result (λ landing. landing ≡ none_landed (bare_items script.now.items)) }
     {
-        Landing::new(alloc, items_of(script))
+        Landing::new(alloc, &script.items)
     }
 
     /// The number of the next frame, or of the next command, where there is one.
@@ -117,10 +117,10 @@ impl Landing {
     }
 
     /// The items that were refused, in their order.
-    pub fn refusals(&self) -> &[(u32, Refusal)]
-        ensures { result.now ≡ self.now.refusals }
+    pub fn refusals(&self) -> Refusals<'_>
+        ensures { result ≡ self.now.refusals }
     {
-        &self.refusals
+        Refusals::new(&self.refusals)
     }
 
     /// How many frames, or how many commands, have landed.
@@ -193,20 +193,13 @@ impl Landing {
     }
 }
 
-/// The items of a script.
-fn items_of(script: &Script) -> &[Item]
-    ensures { result.now ≡ script.now.items }
-{
-    &script.items.0
-}
-
 /// The items without the octets of the frames.
-fn bare_copy(alloc: Global, items: &[Item]) -> Result<Vec<BareItem>, AllocError>
+fn bare_copy(alloc: Global, items: &ItemList) -> Result<Vec<BareItem>, AllocError>
     ensures { IfOk result (λ copy. copy.items ≡ bare_items items.now) }
 {
-    let mut copy = Vec::with_capacity(alloc, items.len())?;
-    for item in items {
-        copy.push(BareItem::of(item))?;
+    let mut copy = Vec::with_capacity(alloc, items.len() as usize)?;
+    for number in 0..items.len() {
+        copy.push(BareItem::of(items.head(number)))?;
     }
     Ok(copy)
 }

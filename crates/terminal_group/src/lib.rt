@@ -18,7 +18,7 @@ mod return_inbox;
 pub use counted_source::CountedSource;
 pub use group_laws::source_law;
 pub use group_source::{EarlyCause, GroupSource};
-pub use item_ref::{ItemRef, handed};
+pub use item_ref::{ItemRef, lent_item};
 pub use landed_counts::LandedCounts;
 pub use landed_items::Landing;
 pub use return_inbox::Inbox;
