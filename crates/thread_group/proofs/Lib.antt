@@ -2,4 +2,5 @@ pub mod GroupBoundToLegLaws
 pub mod GroupPartsAfterStepLaws
 pub mod GroupRingEndLookLaws
 pub mod JournalEntryAndScenarioLaws
+mod ProofOnlyValueWalks
 pub mod SubmitAndTickAnswerLaws

@@ -1,5 +1,5 @@
 -- The journal of what a group has accepted, and the session of that alone.
-use Rattle.std.specs.Prelude.{◌≡◌, ℕ, ◌&&◌, nat_lt, nat_le, Bool, List, [], map, take, replicate, slice_get, Option}
+use Rattle.std.specs.Prelude.{◌≡◌, ℕ, ◌+◌, ◌≤◌, length, ◌&&◌, nat_lt, nat_le, Bool, List, [], map, take, replicate, slice_get, Option}
 use Rattle.std.specs.Prelude.{Some, None}
 use Rattle.law_model.specs.Common.{Scenario, offers_of, orders_of, Told, default_options}
 use Rattle.law_model.specs.declared.script_types.Item.{Item}
@@ -29,6 +29,12 @@ of_client entries = filter (λ (entry : Numbered). is_client entry.item.kind) en
 
 abbrev pub of_operator : List Numbered → List Numbered
 of_operator entries = filter (λ (entry : Numbered). not (is_client entry.item.kind)) entries
+
+-- how many of them are frames and how many commands, with so many slots left
+pub record AreCounted (entries : List Numbered) (slots frame_count command_count : ℕ) : Type 0 where
+  pub frames : frame_count ≡ length (offers_of (items_in entries))
+  pub commands : command_count ≡ length (orders_of (items_in entries))
+  pub few : frame_count + command_count + slots ≤ 4294967295
 
 -- an item has room
 abbrev pub fits : Journal → ItemKind → Bool

@@ -1,6 +1,5 @@
 pub mod FaultsAndStops
 pub mod Journal
-pub mod JournalEntries
 pub mod GroupRings
 pub mod GroupParts
 pub mod Group

@@ -11,7 +11,7 @@ use crate::group_answers::{SubmitFault, TickAnswer, refused, stopped};
 use crate::item_journal::Journal;
 use crate::open_group::{Opened, open};
 use crate::tick_rings::{first_full, push_frame, take_cells};
-use law_model::{Refusal, Script, Totals};
+use law_model::{Refusals, Script, Totals};
 use member_cells::{BackCell, Container, HeldContainer};
 use std::alloc::{AllocError, Global};
 use terminal_group::{GroupSource, ItemRef};
@@ -105,8 +105,8 @@ impl GroupState {
     }
 
     /// The items that were refused, in the order of the script.
-    pub fn refusals(&self) -> &[(u32, Refusal)]
-        ensures { result.now ≡ refusals_of self.now }
+    pub fn refusals(&self) -> Refusals<'_>
+        ensures { result ≡ refusals_of self.now }
     {
         self.source.landing().refusals()
     }

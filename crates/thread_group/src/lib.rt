@@ -5,6 +5,7 @@
 //! a group whose type says which session it belongs to.
 #![tactic(auto)]
 
+mod accepted_items;
 mod bound_group;
 mod group_answers;
 mod group_state;

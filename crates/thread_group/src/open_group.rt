@@ -33,7 +33,7 @@ pub(crate) fn open(
 {
     Ok(Opened {
         frame: blank_boxes(alloc, usize::from(script.config.lines))?,
-        journal: Journal::new(alloc, entries, bytes)?,
+        journal: Journal::new(entries, bytes),
         source: GroupSource::new(alloc, script)?,
     })
 }
