@@ -3,4 +3,5 @@ pub mod ListLaws
 pub mod PacketNibblesLaws
 pub mod ScrambledBitAndAreaLaws
 pub mod StreamOfPiecesLaws
+pub mod StreamPlacesLaws
 pub mod WindowAndPathLaws

@@ -5,3 +5,4 @@ pub mod Counts
 pub mod Plan
 pub mod ValidScript
 pub mod Items
+pub mod Streams

@@ -3,8 +3,10 @@ ghost use Rattle.std.specs.Prelude.{◌≡◌, ◌<◌, ◌≤◌, ◌+◌, [], 
 ghost use Rattle.law_rates.specs.Rates.{IsRate, count_of};
 ghost use Rattle.law_model.specs.Limits.{most_items, longest_offer};
 ghost use Rattle.law_model.specs.declared.script_types.Item.{Item};
-ghost use Rattle.law_model.specs.session.Items.{stream_items, head_of, lent_kind, octets_in_kind};
+ghost use Rattle.law_model.specs.session.Streams.{FitStreams, mixed};
+ghost use Rattle.law_model.specs.session.Items.{stream_item, stream_items, head_of, lent_kind, octets_in_kind};
 
+use crate::script_items::streams::Streams;
 use crate::script_types::{Item, ItemKind};
 use law_rates::Rate;
 use std::alloc::{AllocError, Global};
@@ -75,10 +77,11 @@ impl FrameRoom {
 #[derive(Drop)]
 pub struct ItemList {
     items: Vec<Item>,
+    streams: Streams,
 }
 
 impl Model for ItemList {
-    ghost use Rattle.std.specs.Prelude.{◌≤◌, List, length, All};
+    ghost use Rattle.std.specs.Prelude.{◌≡◌, ◌≤◌, List, [], length, All};
     ghost use Rattle.law_model.specs.declared.script_types.Item.{Item};
     ghost use Rattle.law_model.specs.session.Items.{IsFew, IsShort};
 
@@ -86,7 +89,7 @@ impl Model for ItemList {
 
     ghost view = { λ items. items.items.items };
 
-    ghost invariant = { λ items. IsFew items.items.items × All IsShort items.items.items };
+    ghost invariant = { λ items. IsFew items.items.items × All IsShort items.items.items × (items.streams ≡ []) };
 }
 
 impl ItemList {
@@ -96,6 +99,7 @@ impl ItemList {
     {
         ItemList {
             items: Vec::new(alloc),
+            streams: Streams::new(alloc),
         }
     }
 
@@ -125,6 +129,14 @@ impl ItemList {
         ensures few { result ≤ most_items }
     {
         self.items.len() as u32
+    }
+
+    /// The single items, and the streams among them.
+    pub fn parts(&self) -> (&[Item], &Streams)
+        ensures items { self.now ≡ mixed stream_item result.0.now result.1.now }
+        ensures fit { FitStreams 0 (length result.0.now) result.1.now }
+    {
+        (&self.items, &self.streams)
     }
 
     /// An item without octets.

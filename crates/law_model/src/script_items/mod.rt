@@ -2,6 +2,8 @@
 
 mod item_list;
 mod refusal_list;
+mod streams;
 
 pub use item_list::{FrameRoom, ItemHead, ItemList, ItemSort, Lent};
 pub use refusal_list::Refusals;
+pub use streams::{Place, Stream, Streams};
