@@ -1,16 +1,15 @@
 //! A walk of a script, event by event.
 
 ghost use Rattle.std.specs.Prelude.{◌≡◌, ℕ, ◌<◌, suc};
-ghost use Rattle.std.specs.Prelude.{length, replicate, slice_get, Some, None, IfOk};
+ghost use Rattle.std.specs.Prelude.{length, replicate, None, IfOk};
 ghost use Rattle.law_model.specs.declared.walk_events.Event.TheVariants.{Command, Accept, Tick, Carry, Back, Take};
 ghost use Rattle.law_model.specs.Common.{IsValid, begin, step, run, round, drain, bound, carries_from, steps_in};
 ghost use Rattle.law_model.specs.Common.{source_at, leg_of};
-ghost use Rattle.law_model.specs.declared.script_types.Item.{Item};
 ghost use Rattle.law_progress.specs.Progress.{HasLine};
 ghost use Rattle.law_walk.specs.Common.{landed_scenario, told_before, refusals_of, totals_of, last_packet, table_in};
 ghost use Rattle.law_walk.specs.Common.{walk_plan, IsWalked};
 ghost use Rattle.walk_engine.specs.walk_core.WalkAfterEvent.{answer_by, counts_after, moved_of, GivesRows};
-ghost use Rattle.terminal_group.specs.Item.{bare_items, kind_of};
+ghost use Rattle.terminal_group.specs.Item.{bare_items};
 ghost use Rattle.terminal_group.specs.Landed.{none_landed};
 ghost use Rattle.walk_engine.specs.walk_core.Landing.{landing_of, early_cause};
 ghost use Rattle.walk_engine.specs.walk_core.LiveWalking.{LiveStands, walking_counts};
@@ -19,10 +18,10 @@ ghost use Rattle.walk_engine.specs.walk_core.WayParts.{note_of, windows_in, Agre
 use crate::walk_core::live_walk::LiveWalk;
 use crate::walk_core::one_way::WayCore;
 use crate::walk_core::step_answers::{Moved, StepNote};
-use law_model::{Event, FrameOut, Refusal, Script, StallCause, Totals};
+use law_model::{Event, FrameOut, FrameRoom, Refusal, Refusals, Script, StallCause, Totals};
 use std::alloc::{AllocError, Global};
 use std::marker::Model;
-use terminal_group::{ItemRef, Landing, handed};
+use terminal_group::{Landing, lent_item};
 use terminal_source::lcas_source::SourceTable;
 
 /// A walk of a script.
@@ -31,6 +30,8 @@ pub struct Walk {
     /// Which of its items have landed.
     landing: Landing,
     live: LiveWalk,
+    /// A frame that is drawn is lent from here.
+    room: FrameRoom,
 }
 
 /// A call of its own, so that a function which drops one doesn't go through its parts.
@@ -40,6 +41,7 @@ impl Drop for Walk {
             script: _,
             landing: _,
             live: _,
+            room: _,
         } = self;
     }
 }
@@ -60,7 +62,8 @@ impl Model for Walk {
 }
 
 impl Walk {
-    /// Makes room for a walk of a script, before any event: for its rings, its inbox, and a refusal of each item.
+    /// Makes room for a walk of a script, before any event: for its rings, its inbox, a frame that is drawn, and
+    /// a refusal of each item.
     pub fn new(alloc: Global, script: Script) -> Result<Walk, AllocError>
         requires { IsValid script }
         ensures script { IfOk result (λ walk. walk.script ≡ script) }
@@ -68,7 +71,8 @@ impl Walk {
     {
         let landing = Landing::of(alloc, &script)?;
         let live = LiveWalk::new(alloc, &script.config)?;
-        Ok(Walk::begun(script, landing, live))
+        let room = FrameRoom::new(alloc)?;
+        Ok(Walk::begun(script, landing, live, room))
     }
 
     /// Makes an event. One that stalls changes nothing, but that a Take which waits keeps the cells that it
@@ -148,8 +152,8 @@ impl Walk {
     }
 
     /// The items that were refused, in the order of the script.
-    pub fn refusals(&self) -> &[(u32, Refusal)]
-        ensures { result.now ≡ refusals_of (leg_of self.now.script) self.now.counts }
+    pub fn refusals(&self) -> Refusals<'_>
+        ensures { result ≡ refusals_of (leg_of self.now.script) self.now.counts }
     {
         self.landing.refusals()
     }
@@ -184,7 +188,7 @@ impl Walk {
     }
 
     /// A walk of a script before any event.
-    fn begun(script: Script, landing: Landing, live: LiveWalk) -> Walk
+    fn begun(script: Script, landing: Landing, live: LiveWalk, room: FrameRoom) -> Walk
         requires script { IsValid script }
         requires landing { landing ≡ none_landed (bare_items script.items) }
         requires stands { LiveStands (leg_of script) live }
@@ -197,6 +201,7 @@ impl Walk {
             script,
             landing,
             live,
+            room,
         }
     }
 
@@ -229,7 +234,8 @@ impl Walk {
         if self.live.ticks() < due {
             return Moved::Stalled(StallCause::NotDue { due });
         }
-        let why = self.live.say(item_at(&self.script, number));
+        let lent = self.script.items.lend(number, &mut self.room);
+        let why = self.live.say(lent_item(lent, &self.room));
         self.landing.land(client, number, why);
         landed(why)
     }
@@ -305,15 +311,6 @@ impl Walk {
     {
         self.live.back()
     }
-}
-
-/// The item of a number, as it is handed in.
-fn item_at(script: &Script, number: u32) -> ItemRef<'_>
-    requires { number < length script.now.items }
-    ensures { (item : Item) → slice_get script.now.items number ≡ Some item →
-        kind_of result ≡ item.kind }
-{
-    handed(&script.items.0[number as usize].kind)
 }
 
 /// What an item answers that lands, and is refused or not.

@@ -1,6 +1,7 @@
 -- The next item of a kind lands, or stalls.
-use Rattle.std.proofs.Common.{◌≡◌, None, refl, sym, ◌∙◌, ap, subst, arith, is_some}
+use Rattle.std.proofs.Common.{◌≡◌, slice_get, Some, None, refl, sym, ◌∙◌, ap, subst, arith, is_some}
 use Rattle.law_model.specs.Common.{leg_of}
+use Rattle.law_model.specs.declared.script_types.Item.{Item}
 use Rattle.law_model.specs.declared.walk_events.StallCause.TheVariants.{NotDue, Done as Stall_done}
 use Rattle.law_walk.specs.Common.{is_client}
 use Rattle.terminal_group.specs.Item.{kind_of}
@@ -58,8 +59,8 @@ returns-then-ticks-due c =
 
 -- the item is due, is of the kind that lands, and so the walk goes on
 record IsSaid (c : After-say-why) : Type 0 where
-  kind : is_client (kind_of c.item_at.result) ≡ c.args.client
-  due : IsDue (leg_of c.self.inside.script) (walking_counts c.self.inside.live) (kind_of c.item_at.result)
+  kind : is_client (kind_of c.lent_item.result) ≡ c.args.client
+  due : IsDue (leg_of c.self.inside.script) (walking_counts c.self.inside.live) (kind_of c.lent_item.result)
   makes : LiveMakes (leg_of c.self.inside.script) (landing_of c.args.client) c.self.inside.live c.say-why.new.self
       (answer_by None c.say-why.result)
 
@@ -73,10 +74,12 @@ said c =
     let low = c.if-ticks-due.false in
     let late = c.due-due.ensures in
     let ticks = c.ticks.ensures in
+    let lends : (item : Item) → slice_get f.script.items c.in-Some.number ≡ Some item →
+    kind_of c.lent_item.result ≡ item.kind = λ item at. c.lent_item.ensures ∙ c.lend-lent.ensures item at in
     let kind = land-kind leg come f.live.way is.stands.stands f.landing is.landed c.args.client c.in-Some.number
-    (kind_of c.item_at.result) next c.item_at.ensures in
+    (kind_of c.lent_item.result) next lends in
     let due = due-in leg come f.live.way is.stands.stands f.landing is.landed c.args.client c.in-Some.number
-    (kind_of c.item_at.result) next c.item_at.ensures (omega (arith, low, late, ticks)) in
+    (kind_of c.lent_item.result) next lends (omega (arith, low, late, ticks)) in
     record {
       kind = kind;
       due = due;
@@ -93,7 +96,7 @@ invariant_of-self c =
     let here = said (goal.at.invariant_of-self c).After-say-why in
     let next = ap (next_number f.landing) here.kind ∙ sym c.next.ensures ∙ c.in-Some.is in
     let known = land-known leg come f.live.way is.stands.stands f.landing is.landed c.land.new.self c.in-Some.number
-    (kind_of c.item_at.result) c.say-why.result here.due next (c.say-why.ensures.refusal leg is.stands here.due)
+    (kind_of c.lent_item.result) c.say-why.result here.due next (c.say-why.ensures.refusal leg is.stands here.due)
     (subst (λ client. HasPassed f.landing c.land.new.self client (is_some c.say-why.result)) (sym here.kind)
     c.land.ensures.passed) c.land.ensures.refusals in (
       c.self.invariant.0,
