@@ -3,6 +3,8 @@ use Rattle.std.specs.Prelude.{ℕ, List, ◌++◌, codes, decimal}
 use Rattle.text_lines.specs.declared.text_faults.LineKind.{LineKind}
 use Rattle.text_lines.specs.declared.text_faults.LineKind.TheVariants.{Word, Number, Hex, Range, Order, Missing}
 use Rattle.text_lines.specs.Fields.{field_kind}
+use Rattle.text_scripts.specs.declared.script_read.script_fault.SizesFault.{SizesFault}
+use Rattle.text_scripts.specs.declared.script_read.script_fault.SizesFault.TheVariants as sizes
 use Rattle.text_scripts.specs.declared.script_read.script_fault.LineFault.{LineFault}
 use Rattle.text_scripts.specs.declared.script_read.script_fault.LineFault.TheVariants as wrong
 use Rattle.text_scripts.specs.declared.script_read.script_fault.ScriptFault.{ScriptFault}
@@ -21,16 +23,24 @@ kind_text Range = codes "range"
 kind_text Order = codes "order"
 kind_text Missing = codes "missing"
 
--- the kind of what is wrong with a line of a script
+-- the kind of what is wrong with the sizes of frames, and with a line of a script
+abbrev pub sizes_kind : SizesFault → LineKind
+sizes_kind sizes.Digits = Number
+sizes_kind sizes.Count = Range
+sizes_kind sizes.Range = Range
+
 abbrev pub kind_of : LineFault → LineKind
 kind_of wrong.First = Word
 kind_of (wrong.Count keyword takes follow) = Word
 kind_of (wrong.Field fault) = field_kind fault
+kind_of (wrong.Sizes fault) = sizes_kind fault
+kind_of wrong.LongNumber = Number
 kind_of (wrong.Missing keyword) = Missing
 kind_of (wrong.Part this begun) = Order
 kind_of (wrong.Twice option) = Range
 kind_of (wrong.FullLine line) = Range
 kind_of wrong.FullPath = Range
+kind_of (wrong.TooMany items) = Range
 kind_of (wrong.FailureBefore end) = Order
 kind_of (wrong.LossBefore end) = Order
 kind_of (wrong.FrameBefore due) = Order

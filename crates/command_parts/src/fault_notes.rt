@@ -13,7 +13,7 @@ use text_scripts::script_read::ScriptFault;
 pub(super) const NOTE_ROOM: usize = 256;
 
 /// Room for what is said of how to write a line.
-const HELP_ROOM: usize = 192;
+const HELP_ROOM: usize = 200;
 
 /// The word of a kind of fault.
 fn kind_word(kind: LineKind) -> &'static [u8]
@@ -42,7 +42,7 @@ fn add_help(line: &mut TextCursor, help: &[u8])
 
 /// Writes that a line of the input is faulty, and how to write it.
 pub(super) fn line_note(number: u64, kind: LineKind, help: &[u8], out: &mut [u8]) -> usize
-    requires help { length help.now ≤ 192 }
+    requires help { length help.now ≤ 200 }
     requires room { 256 ≤ length out.old }
     ensures within { result ≤ 256 }
     ensures line { take result out.new ≡ line_text number kind help.now }

@@ -14,7 +14,7 @@ const HELP_ROOM: usize = 128;
 
 /// A line of an input is faulty, and `help` says how to write it.
 pub fn line_fault(number: u64, kind: LineKind, help: &[u8]) -> Fault
-    requires { length help.now ≤ 192 }
+    requires { length help.now ≤ 200 }
     ensures why { result.why ≡ Refusal.Line }
     ensures note { result.note.items ≡ line_text number kind help.now }
 {

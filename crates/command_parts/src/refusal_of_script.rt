@@ -9,10 +9,10 @@ use crate::refusal_of_line::line_fault;
 use crate::script_helps::line_help;
 use crate::stop_and_status::{Fault, Refusal, Stop};
 use text_lines::LineKind;
-use text_scripts::script_read::{LineFault, ScriptFault};
+use text_scripts::script_read::{LineFault, ScriptFault, SizesFault};
 
 /// Room for what is said of how to write a line.
-const HELP_ROOM: usize = 192;
+const HELP_ROOM: usize = 200;
 
 /// The kind of what is wrong with a line of a script.
 fn kind_of(fault: LineFault) -> LineKind
@@ -21,8 +21,13 @@ fn kind_of(fault: LineFault) -> LineKind
     match fault {
         LineFault::First | LineFault::Count { .. } => LineKind::Word,
         LineFault::Field(fault) => fault.kind(),
+        LineFault::Sizes(SizesFault::Digits) | LineFault::LongNumber => LineKind::Number,
         LineFault::Missing(_) => LineKind::Missing,
-        LineFault::Twice(_) | LineFault::FullLine { .. } | LineFault::FullPath => LineKind::Range,
+        LineFault::Sizes(SizesFault::Count | SizesFault::Range)
+        | LineFault::Twice(_)
+        | LineFault::FullLine { .. }
+        | LineFault::FullPath
+        | LineFault::TooMany { .. } => LineKind::Range,
         LineFault::Part { .. }
         | LineFault::FailureBefore { .. }
         | LineFault::LossBefore { .. }

@@ -3,3 +3,5 @@ pub mod RateTextLaws
 pub mod ScriptDraftGrowthLaws
 pub mod ScriptLineAndFirstFaultLaws
 pub mod StatementAndWordFaultLaws
+pub mod StreamItemLaws
+pub mod StreamWordLaws

@@ -5,7 +5,12 @@ use Rattle.std.proofs.Common.{None, Some}
 use Rattle.std.specs.List.Sorted.{IsNonDecreasing}
 use Rattle.std.proofs.lemmas.List.{length-append, map-append, get_or_append_left, get_or-append_right, length-set}
 use Rattle.std.proofs.lemmas.List.{length-replicate, append-nil, at_drop_more}
-use Rattle.std.proofs.lemmas.List.Elements.{All-push, All-set, All-get_or, All-replicate}
+use Rattle.std.proofs.lemmas.List.Elements.{All-append, All-push, All-set, All-get_or, All-replicate}
+use Rattle.law_rates.specs.Rates.{due_of as due_at, count_of}
+use Rattle.law_rates.specs.declared.rate_frames.Rate.{Rate}
+use Rattle.law_model.specs.session.Items.{stream_items}
+use Rattle.text_scripts.proofs.StreamItemLaws.{are_frame_items, length-stream, no_commands, stream_dues, dues_rise}
+use Rattle.text_scripts.proofs.StreamItemLaws.{dues_least, dues_most, last_later, rising-append}
 use Rattle.std.proofs.lemmas.Bool.{cases_lt, cases_Bool}
 use Rattle.law_model.specs.Common.{Due, frame_due, command_due, due_of, dues_of, frame_dues, command_dues, AreApart}
 use Rattle.law_model.specs.Common.{HasLosses, IsItem, AreItems, IsEvent, IsOptions, least_or, AreWindows, FitsRing}
@@ -79,9 +84,12 @@ commands-append [] ys = refl
 commands-append (frame_due due ∷ xs) ys = commands-append xs ys
 commands-append (command_due due ∷ xs) ys = ap (λ (l : List ℕ). due ∷ l) (commands-append xs ys)
 
+dues-append : (xs ys : List Item) → dues_of (xs ++ ys) ≡ dues_of xs ++ dues_of ys
+dues-append xs ys = map-append (λ (item : Item). due_of item.due item.kind) xs ys
+
 dues-one : (items : List Item) (item : Item) →
     dues_of (items ++ item ∷ []) ≡ dues_of items ++ due_of item.due item.kind ∷ []
-dues-one items item = map-append (λ (item : Item). due_of item.due item.kind) items (item ∷ [])
+dues-one items item = dues-append items (item ∷ [])
 
 pub frames-one : (items : List Item) (item : Item)
     → frame_dues (dues_of (items ++ item ∷ [])) ≡ frame_dues (dues_of items) ++ frame_dues
@@ -175,6 +183,7 @@ IsDraft-first = record {
   };
   no_items = λ at. refl;
   items = no_items 0;
+  few = omega arith;
   frame_due = All-none _;
   command_due = All-none _;
   no_events = λ at. refl;
@@ -271,6 +280,9 @@ one_frame ticks due items octets are most is =
           (sym (commands-one items it ∙ append-nil (command_dues (dues_of items)))) are.commands;
     }
 
+more_room : (items : List Item) (it : Item) → length items < most_items → length (items ++ it ∷ []) ≤ most_items
+more_room items it room = let size = length-append items (it ∷ []) in omega (arith, room, size)
+
 frame_after : (d : Draft) (due : ℕ) (octets : List ℕ) → IsDraft d →
     Fits d (says.Item (record { due = due; kind = item.Frame octets }))
     → IsDraft (after_item d (record { due = due; kind = item.Frame octets }) (item.Frame octets))
@@ -281,9 +293,10 @@ frame_after d due octets is fits =
       config = config_later d.next 8 d.config fits.0 (omega arith) is.config;
       no_items = λ at. absurd (omega (arith, at));
       items = one_frame d.config.ticks due d.items octets is.items
-          (most-up _ d.frame_due due is.frame_due fits.3) fits.2;
+          (most-up _ d.frame_due due is.frame_due fits.2.order) fits.2.fits;
+      few = more_room d.items it fits.2.room;
       frame_due = subst (All (λ n. n ≤ due)) (sym (frames-one d.items it))
-          (most-one _ d.frame_due due is.frame_due fits.3);
+          (most-one _ d.frame_due due is.frame_due fits.2.order);
       command_due = subst (All (λ n. n ≤ d.command_due))
           (sym (commands-one d.items it ∙ append-nil (command_dues (dues_of d.items)))) is.command_due;
       no_events = λ at. is.no_events fits.1;
@@ -303,13 +316,14 @@ one_command ticks items it kind are most is = record {
 
 command_after : (d : Draft) (it : Item) → due_of it.due it.kind ≡ command_due it.due → IsDraft d → 6 ≤ d.next →
     d.next ≤ 8
-    → IsItem d.config.ticks it → d.command_due ≤ it.due →
+    → IsItem d.config.ticks it → d.command_due ≤ it.due → length d.items < most_items →
     IsDraft (record d { next = 8; items = d.items ++ it ∷ []; command_due = it.due })
-command_after d it kind is low high fits later = record {
+command_after d it kind is low high fits later room = record {
   config = config_later d.next 8 d.config low (omega arith) is.config;
   no_items = λ at. absurd (omega (arith, at));
   items = one_command d.config.ticks d.items it kind is.items
       (most-up _ d.command_due it.due is.command_due later) fits;
+  few = more_room d.items it room;
   frame_due = subst (All (λ n. n ≤ d.frame_due)) (sym (frames-command d.items it kind)) is.frame_due;
   command_due = subst (All (λ n. n ≤ it.due)) (sym (commands-command d.items it kind))
       (most-one _ d.command_due it.due is.command_due later);
@@ -322,7 +336,50 @@ item_after : (d : Draft) (due : ℕ) (kind : ItemKind) → IsDraft d →
     → IsDraft (after_item d (record { due = due; kind = kind }) kind)
 item_after d due (item.Frame octets) is fits = frame_after d due octets is fits
 item_after d due kind is fits =
-    command_after d (record { due = due; kind = kind }) refl is fits.0 fits.1 fits.2 fits.3
+    command_after d (record { due = due; kind = kind }) refl is fits.0 fits.1 fits.2.fits fits.2.order
+    fits.2.room
+
+-- ---- the frames of a stream
+frames-stream : (items : List Item) (rate : Rate) →
+    frame_dues (dues_of (items ++ stream_items rate)) ≡ frame_dues (dues_of items) ++ stream_dues rate
+frames-stream items rate =
+    ap frame_dues (dues-append items (stream_items rate)) ∙ frames-append (dues_of items) (dues_of (stream_items rate))
+
+commands-stream : (items : List Item) (rate : Rate) →
+    command_dues (dues_of (items ++ stream_items rate)) ≡ command_dues (dues_of items)
+commands-stream items rate =
+    ap command_dues (dues-append items (stream_items rate))
+    ∙ commands-append (dues_of items) (dues_of (stream_items rate))
+    ∙ ap (λ (l : List ℕ). command_dues (dues_of items) ++ l) (no_commands rate)
+    ∙ append-nil (command_dues (dues_of items))
+
+stream_after : (d : Draft) (rate : Rate) → IsDraft d → Fits d (says.Stream rate) → IsDraft (after d (says.Stream rate))
+stream_after d rate is fits =
+    let next = fits.2 in
+    let late = last_later rate next.sound in
+    let early = most-up _ d.frame_due rate.first is.frame_due next.order in
+    record {
+      config = config_later d.next 8 d.config fits.0 (omega arith) is.config;
+      no_items = λ at. absurd (omega (arith, at));
+      items = record {
+        each = All-append (IsItem d.config.ticks) d.items (stream_items rate) is.items.each
+            (are_frame_items rate d.config.ticks next.sound next.ends);
+        frames = subst IsNonDecreasing (sym (frames-stream d.items rate))
+            (rising-append (frame_dues (dues_of d.items)) (stream_dues rate) rate.first is.items.frames
+            (dues_rise rate next.sound) early (dues_least rate next.sound));
+        commands = subst IsNonDecreasing (sym (commands-stream d.items rate)) is.items.commands;
+      };
+      few =
+          (let size = length-append d.items (stream_items rate) in
+          let room = next.room in
+          omega (arith, size, room, length-stream rate));
+      frame_due = subst (All (λ n. n ≤ due_at rate (count_of rate - 1))) (sym (frames-stream d.items rate))
+          (All-append (λ n. n ≤ due_at rate (count_of rate - 1)) (frame_dues (dues_of d.items)) (stream_dues rate)
+          (most-up _ rate.first (due_at rate (count_of rate - 1)) early late) (dues_most rate next.sound));
+      command_due = subst (All (λ n. n ≤ d.command_due)) (sym (commands-stream d.items rate)) is.command_due;
+      no_events = λ at. is.no_events fits.1;
+      events = is.events;
+    }
 
 item_config : (d : Draft) (it : Item) (kind : ItemKind) → HasConfig d.next d.config → 6 ≤ d.next →
     HasConfig (after_item d it kind).next (after_item d it kind).config
@@ -448,6 +505,7 @@ config_after d (says.Lost first end) has fits =
     (omega arith) refl has.windows (one_loss d first end has.lost fits.2)
     (let room = fits.2.room in omega (arith, room, length-append d.config.lost ((first, end) ∷ []))) has.options
 config_after d (says.Item it) has fits = item_config d it it.kind has fits.0
+config_after d (says.Stream rate) has fits = config_later d.next 8 d.config fits.0 (omega arith) has
 config_after d (says.Event e) has fits = config_later d.next 9 d.config fits.0 (omega arith) has
 
 -- as long as no item has come, a draft is of its configuration alone
@@ -456,11 +514,13 @@ configured : (d new : Draft) → IsDraft d → d.next ≤ 7 → HasConfig new.ne
 unfolding frame_dues command_dues
 configured d new is early has items events =
     let none : new.items ≡ [] = items ∙ is.no_items early in
+    let size = ap (λ (l : List Item). length l) none in
     let quiet : new.events ≡ [] = events ∙ is.no_events (omega (arith, early)) in
     record {
       config = has;
       no_items = λ at. none;
       items = subst (AreItems new.config.ticks) (sym none) (no_items new.config.ticks);
+      few = omega (arith, size);
       frame_due = rw none (All-none _);
       command_due = rw none (All-none _);
       no_events = λ at. quiet;
@@ -475,10 +535,12 @@ IsDraft-after d (says.Fail m window) is fits =
 IsDraft-after d (says.Lost first end) is fits =
     configured d _ is fits.1 (config_after d (says.Lost first end) is.config fits) refl refl
 IsDraft-after d (says.Item it) is fits = item_after d it.due it.kind is fits
+IsDraft-after d (says.Stream rate) is fits = stream_after d rate is fits
 IsDraft-after d (says.Event e) is fits = record {
   config = config_after d (says.Event e) is.config fits;
   no_items = λ at. absurd (omega (arith, at));
   items = is.items;
+  few = is.few;
   frame_due = is.frame_due;
   command_due = is.command_due;
   no_events = λ at. absurd (omega (arith, at));
@@ -486,15 +548,6 @@ IsDraft-after d (says.Event e) is fits = record {
 }
 IsDraft-after d said is fits =
     configured d _ is (omega (arith, fits.0)) (config_after d said is.config fits) refl refl
-
-added : (d : Draft) (it : Item) (kind : ItemKind) → length (after_item d it kind).items ≤ length d.items + 1
-added d it (item.Frame octets) = let size = length-append d.items (it ∷ []) in omega (arith, size)
-added d it kind = let size = length-append d.items (it ∷ []) in omega (arith, size)
-
--- a line adds at most one item
-pub items_after : (d : Draft) (said : Statement) → length (after d said).items ≤ length d.items + 1
-items_after d (says.Item it) = added d it it.kind
-items_after d said = omega arith
 
 -- ---- The least of a list, one step on.
 least_of_two : (n m : ℕ) (ns : List ℕ) → least_or (min n m) ns ≡ min n (least_or m ns)
@@ -563,9 +616,8 @@ lag_fits c none =
     ]
 
 -- ---- the script
-pub IsValid-draft : (d : Draft) → IsDraft d → 6 ≤ d.next → length d.items ≤ most_items → config_fault d.config ≡ None →
-    IsValid (script_in d)
-IsValid-draft d is whole few none =
+pub IsValid-draft : (d : Draft) → IsDraft d → 6 ≤ d.next → config_fault d.config ≡ None → IsValid (script_in d)
+IsValid-draft d is whole none =
     let has = is.config in
     let lines = has.lines (omega (arith, whole)) in
     let slips = no_fault (slip_fault 0 d.config.windows) (fault_or (spread_fault d.config) (lag_fault d.config)) none in
@@ -588,16 +640,16 @@ IsValid-draft d is whole few none =
           fits_lag = lag_fits d.config rings.1;
         };
         items = is.items;
-        few = few;
+        few = is.few;
       };
       events = is.events;
     }
 
 -- what its lines say, before slips, spread and lag are tested
-pub IsUntested-draft : (d : Draft) → IsDraft d → 6 ≤ d.next → length d.items ≤ most_items → IsUntested (script_in d)
-IsUntested-draft d is whole few = record {
+pub IsUntested-draft : (d : Draft) → IsDraft d → 6 ≤ d.next → IsUntested (script_in d)
+IsUntested-draft d is whole = record {
   few = (let lines = is.config.lines (omega (arith, whole)) in omega (arith, lines.1, is.config.few));
   windows = is.config.windows;
   few_lost = is.config.few_lost;
-  valid = λ none. IsValid-draft d is whole few none;
+  valid = λ none. IsValid-draft d is whole none;
 }

@@ -28,8 +28,7 @@ use Rattle.law_model.specs.declared.window_types.Window.{Window}
 use Rattle.law_model.specs.declared.script_types.Config.{Config}
 use Rattle.law_model.specs.declared.script_types.Script.{Script}
 use Rattle.text_scripts.specs.declared.script_read.script_reader.ScriptReader.{ScriptReader}
-use Rattle.text_lines.proofs.TextLineAndWordLaws.{lines_few}
-use Rattle.text_scripts.proofs.ScriptDraftGrowthLaws.{IsDraft-first, IsDraft-after, items_after, IsValid-draft}
+use Rattle.text_scripts.proofs.ScriptDraftGrowthLaws.{IsDraft-first, IsDraft-after, IsValid-draft}
 use Rattle.text_scripts.proofs.StatementAndWordFaultLaws.{fits_words}
 use Rattle.text_scripts.specs.declared.script_read.script_fault.LineStop.TheVariants as stop
 use Rattle.text_scripts.specs.declared.script_read.script_fault.ScriptFault.TheVariants as fault
@@ -314,34 +313,25 @@ fails_on rest all f follows told = elim told [
 
 -- ---- What lines without a fault say is a draft.
 -- ---- a draft line by line
-record IsRead (before : ℕ) (now : Draft) : Type 0 where
-  pub draft : IsDraft now
-  pub few : length now.items ≤ before
-
-sound_draft : (ls : List (List ℕ)) (d now : Draft) → IsDraft d → AreSound script_lines d ls now →
-    IsRead (length d.items + length ls) now
+sound_draft : (ls : List (List ℕ)) (d now : Draft) → IsDraft d → AreSound script_lines d ls now → IsDraft now
 unfolding AreSound
-sound_draft [] d now is sound =
-    subst (λ (x : Draft). IsRead (length d.items + 0) x) sound (record { draft = is; few = omega arith })
+sound_draft [] d now is sound = subst IsDraft sound is
 sound_draft (l ∷ ls) d now is sound =
-    let next : Draft = after d (words_said (words l)) in
-    let rest = sound_draft ls next now (IsDraft-after d (words_said (words l)) is (fits_words d (words l) is sound.0))
-    sound.1 in
-    let one = items_after d (words_said (words l)) in
-    let few = rest.few in
-    record { draft = rest.draft; few = omega (arith, one, few) }
+    sound_draft ls (after d (words_said (words l))) now
+    (IsDraft-after d (words_said (words l)) is (fits_words d (words l) is sound.0)) sound.1
+
+pub valid_script : (text : List ℕ) (script : Script) → script_of text ≡ Ok script → IsValid script
+valid_script text script said =
+    let is = (said_script text script).0 said in
+    subst IsValid (sym is.is)
+    (IsValid-draft is.now (sound_draft (lines text) at_first is.now IsDraft-first is.sound) is.whole is.passes)
 
 pub valid_text : (text : List ℕ) (script : Script) → length text ≤ 67108864 → script_of text ≡ Ok script →
     IsValid script
-valid_text text script short said =
-    let is = (said_script text script).0 said in
-    let read = sound_draft (lines text) at_first is.now IsDraft-first is.sound in
-    let few = read.few in
-    subst IsValid (sym is.is) (IsValid-draft is.now read.draft is.whole
-    (let less = lines_few text in omega (arith, few, less, short)) is.passes)
+valid_text text script short said = valid_script text script said
 
 pub few_lost_text : (text : List ℕ) (script : Script) → script_of text ≡ Ok script → HasFewLosses script
 few_lost_text text script said =
     let is = (said_script text script).0 said in
     let read = sound_draft (lines text) at_first is.now IsDraft-first is.sound in
-    subst HasFewLosses (sym is.is) read.draft.config.few_lost
+    subst HasFewLosses (sym is.is) read.config.few_lost

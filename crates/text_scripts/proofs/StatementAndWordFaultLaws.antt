@@ -12,7 +12,7 @@ use Rattle.text_lines.proofs.TextLineAndWordLaws.{words_only, or_none, where_non
 use Rattle.text_lines.proofs.TextLineAndWordLaws.{one_field, two_fields, four_fields}
 use Rattle.std.specs.Option.{option_or}
 use Rattle.text_lines.specs.declared.text_faults.FieldFault.{FieldFault}
-use Rattle.text_lines.specs.Fields.{fields_fault, number_fault, within, any, above, digits, one_of, where_true}
+use Rattle.text_lines.specs.Fields.{Field as FieldOf, fields_fault, number_fault, within, any, above, digits, one_of, where_true}
 use Rattle.text_lines.specs.Fields.{name_fault}
 use Rattle.text_scripts.specs.declared.script_read.script_fault.LineFault.{LineFault}
 use Rattle.text_scripts.specs.declared.script_read.script_fault.LineFault.TheVariants.{Field}
@@ -25,6 +25,9 @@ use Rattle.text_lines.specs.declared.text_faults.FieldFault.TheVariants.{Name}
 use Rattle.law_model.specs.Common.{IsWithin, IsSize, IsStatuses, vc3_size, vc4_size}
 use Rattle.text_scripts.specs.declared.script_read.script_keyword.Keyword.{Keyword}
 use Rattle.text_scripts.specs.declared.script_read.script_draft.Draft.{Draft}
+use Rattle.law_rates.specs.Rates.{count_of}
+use Rattle.text_scripts.specs.script_read.Statements.{takes, each_fault, rate_in}
+use Rattle.text_scripts.proofs.StreamWordLaws.{says_rate}
 use Rattle.text_scripts.specs.script_read.Statements.{keyword_of, place, awaited, part_of, begun_at, place_fault}
 use Rattle.text_scripts.specs.script_read.Statements.{statuses_of, size_of, fields, windows_of, last_end, last_lost}
 use Rattle.text_scripts.specs.script_read.Statements.{is_full, is_early, full_fault, early_fault, rest_fault}
@@ -32,8 +35,9 @@ use Rattle.text_scripts.specs.script_read.Statements.{known_fault, words_fault, 
 use Rattle.text_lines.specs.declared.text_faults.Names.TheVariants as names
 use Rattle.text_scripts.specs.declared.script_read.script_fault.LineFault.TheVariants as wrong
 use Rattle.text_scripts.specs.declared.script_read.script_keyword.Keyword.TheVariants as word
-use Rattle.law_model.specs.Common.{most_count, most_lines, most_ticks}
-use Rattle.law_model.specs.Common.{largest_ring, longest_delay, longest_holdoff, longest_lag, longest_offer, longest_restore, longest_slip, most_packets, most_windows}
+use Rattle.law_model.specs.Common.{most_count, most_items, most_lines, most_ticks}
+use Rattle.law_model.specs.Common.{largest_ring, longest_delay, longest_holdoff, longest_lag, longest_offer}
+use Rattle.law_model.specs.Common.{longest_restore, longest_slip, most_packets, most_windows}
 
 -- ---- Hexadecimal digits have no space among them.
 no_space : (c : ℕ) → is_hex_digit c ≡ true → c ≢ 32
@@ -190,34 +194,38 @@ at_options next is = let late = is.1 (omega arith) in omega (arith, late.0, late
 
 -- ---- what a line says
 record HasNoFault (d : Draft) (k : Keyword) (ws : List (List ℕ)) : Type 0 where
-  pub count : length ws ≡ length (fields d k)
-  pub each : fields_fault (fields d k) 2 0 ws ≡ None
+  pub count : length ws ≡ takes d k
+  pub each : each_fault d k ws ≡ None
   pub room : is_full d k ws ≡ false
   pub order : is_early d k ws ≡ false
 
 no_fault : (d : Draft) (k : Keyword) (ws : List (List ℕ)) → rest_fault d k ws ≡ None → HasNoFault d k ws
 no_fault d k ws none =
-    let count = wrong.Count k (length (fields d k)) (length ws) in
-    let each = option_map wrong.Field (fields_fault (fields d k) 2 0 ws) in
-    let room = where_true (is_full d k ws) (full_fault k ws) in
+    let count = wrong.Count k (takes d k) (length ws) in
+    let each = each_fault d k ws in
+    let room = where_true (is_full d k ws) (full_fault d k ws) in
     let order = where_true (is_early d k ws) (early_fault d k ws) in
-    let one = or_none (where_true (not (length ws == length (fields d k))) count)
+    let one = or_none (where_true (not (length ws == takes d k)) count)
     (option_or each (option_or room order)) none in
     let two = or_none each (option_or room order) one.1 in
     let three = or_none room order two.1 in
     record {
-      count = eqb-true (length ws) (length (fields d k))
-          (not-false (length ws == length (fields d k))
-          (where_none (not (length ws == length (fields d k))) count one.0));
-      each = map_none wrong.Field (fields_fault (fields d k) 2 0 ws) two.0;
-      room = where_none (is_full d k ws) (full_fault k ws) three.0;
+      count = eqb-true (length ws) (takes d k)
+          (not-false (length ws == takes d k) (where_none (not (length ws == takes d k)) count one.0));
+      each = two.0;
+      room = where_none (is_full d k ws) (full_fault d k ws) three.0;
       order = where_none (is_early d k ws) (early_fault d k ws) three.1;
     }
 
+-- words that are as these fields have it
+plain : (fs : List FieldOf) (ws : List (List ℕ)) → option_map wrong.Field (fields_fault fs 2 0 ws) ≡ None →
+    fields_fault fs 2 0 ws ≡ None
+plain fs ws none = map_none wrong.Field (fields_fault fs 2 0 ws) none
+
 one_number : (least most : ℕ) (ws : List (List ℕ)) → length ws ≡ 1 →
-    fields_fault (within least most ∷ []) 2 0 ws ≡ None → IsWithin least most (number_at 0 ws)
+    option_map wrong.Field (fields_fault (within least most ∷ []) 2 0 ws) ≡ None → IsWithin least most (number_at 0 ws)
 one_number least most ws size none =
-    number_ok 2 least most (word_at 0 ws) (one_field (within least most) 2 ws size none)
+    number_ok 2 least most (word_at 0 ws) (one_field (within least most) 2 ws size (plain (within least most ∷ []) ws none))
 
 some_lines : (d : Draft) → IsDraft d → 2 ≤ d.next → 1 ≤ d.config.lines
 some_lines d is late = (is.config.lines late).0
@@ -226,7 +234,7 @@ next_window : (d : Draft) (ws : List (List ℕ)) → IsDraft d → 6 ≤ d.next 
     → IsNext d (number_at 0 ws) (record { first = number_at 1 ws; end = number_at 2 ws; slip = number_at 3 ws })
 next_window d ws is late fine =
     let four = four_fields (within 0 (d.config.lines - 1)) any (above d.config.ticks)
-    (within 0 longest_slip) 2 ws fine.count fine.each in
+    (within 0 longest_slip) 2 ws fine.count (plain (fields d word.Fail) ws fine.each) in
     let some = some_lines d is (omega (arith, late)) in
     let line = number_ok 2 0 (d.config.lines - 1) (word_at 0 ws) four.first in
     let end = number_ok 4 (number_at 1 ws + 1) d.config.ticks (word_at 2 ws) four.third in
@@ -242,7 +250,7 @@ next_window d ws is late fine =
 next_lost : (d : Draft) (ws : List (List ℕ)) → HasNoFault d word.Lost ws →
     IsNextLost d (number_at 0 ws) (number_at 1 ws)
 next_lost d ws fine =
-    let two = two_fields any (above most_packets) 2 0 ws fine.count fine.each in
+    let two = two_fields any (above most_packets) 2 0 ws fine.count (plain (fields d word.Lost) ws fine.each) in
     let end = number_ok 3 (number_at 0 ws + 1) most_packets (word_at 1 ws) two.1 in
     record {
       some = omega (arith, end.0);
@@ -266,16 +274,19 @@ command_ok d ws is late size none =
     let due = number_ok 2 0 (d.config.ticks - 1) (word_at 0 ws) two.0 in
     record { due = omega (arith, some, due.1); line = (number_ok 3 0 255 (word_at 1 ws) two.1).1 }
 
+room_left : (d : Draft) → nat_lt most_items (length d.items + 1) ≡ false → length d.items < most_items
+room_left d room = let few = ltb-false most_items (length d.items + 1) room in omega (arith, few)
+
 fits_said : (d : Draft) (k : Keyword) (ws : List (List ℕ)) → IsDraft d → IsPlaced d.next (place k) → HasNoFault d k ws →
     Fits d (said k ws)
 fits_said d word.Container ws is at fine = (
   at_place d.next 0 (omega arith) (λ e. omega (arith, e)) at,
-  size_ok (word_at 0 ws) (one_field (one_of names.Containers) 2 ws fine.count fine.each),
+  size_ok (word_at 0 ws) (one_field (one_of names.Containers) 2 ws fine.count (plain (fields d word.Container) ws fine.each)),
 )
 fits_said d word.Lines ws is at fine = (at_lines d.next at, one_number 1 most_lines ws fine.count fine.each)
 fits_said d word.Delays ws is at fine =
     let size : length ws ≡ d.config.lines = fine.count ∙ length-replicate d.config.lines (within 0 longest_delay) in
-    let are = each_within d.config.lines 2 0 ws size fine.each in
+    let are = each_within d.config.lines 2 0 ws size (plain (fields d word.Delays) ws fine.each) in
     (at_place d.next 2 (omega arith) (λ e. omega (arith, e)) at, are.0, are.1)
 fits_said d word.Ring ws is at fine =
     (at_place d.next 3 (omega arith) (λ e. omega (arith, e)) at, one_number 1 largest_ring ws fine.count fine.each)
@@ -290,7 +301,7 @@ fits_said d word.Restore ws is at fine =
     (at_options d.next at, (one_number 0 longest_restore ws fine.count fine.each).1, fine.room)
 fits_said d word.Statuses ws is at fine = (
   at_options d.next at,
-  statuses_ok (word_at 0 ws) (one_field (one_of names.Statuses) 2 ws fine.count fine.each),
+  statuses_ok (word_at 0 ws) (one_field (one_of names.Statuses) 2 ws fine.count (plain (fields d word.Statuses) ws fine.each)),
   fine.room,
 )
 fits_said d word.Fail ws is at fine = let late = at.1 (omega arith) in
@@ -298,29 +309,58 @@ fits_said d word.Fail ws is at fine = let late = at.1 (omega arith) in
 fits_said d word.Lost ws is at fine = let late = at.1 (omega arith) in (late.0, late.1, next_lost d ws fine)
 fits_said d word.Frame ws is at fine =
     let late = at.1 (omega arith) in
-    let two = two_fields (within 0 (d.config.ticks - 1)) (digits 1 longest_offer) 2 0 ws fine.count fine.each in
+    let two = two_fields (within 0 (d.config.ticks - 1)) (digits 1 longest_offer) 2 0 ws fine.count (plain (fields d word.Frame) ws fine.each) in
     let some = some_ticks d is late.0 in
     let due = number_ok 2 0 (d.config.ticks - 1) (word_at 0 ws) two.0 in
     let frame = digits_ok 3 1 longest_offer (word_at 1 ws) two.1 in (
       late.0,
       late.1,
-      (
-        (let e : number_at 0 ws < d.config.ticks = omega (arith, some, due.1) in e),
-        (frame.size, frame.each),
-      ),
-      ltb-false (number_at 0 ws) d.frame_due fine.order,
+      record {
+        fits = (
+          (let e : number_at 0 ws < d.config.ticks = omega (arith, some, due.1) in e),
+          (frame.size, frame.each),
+        );
+        order = ltb-false (number_at 0 ws) d.frame_due fine.order;
+        room = room_left d fine.room;
+      },
+    )
+fits_said d word.Stream ws is at fine =
+    let late = at.1 (omega arith) in
+    let says = says_rate d ws is late.0 fine.count fine.each in (
+      late.0,
+      late.1,
+      record {
+        sound = says.sound;
+        ends = says.ends;
+        order = ltb-false (number_at 2 ws) d.frame_due fine.order;
+        room = ltb-false most_items (length d.items + count_of (rate_in ws)) fine.room;
+      },
     )
 fits_said d word.Add ws is at fine =
     let late = at.1 (omega arith) in
-    let command = command_ok d ws is late.0 fine.count fine.each in
-    (late.0, late.1, (command.due, command.line), ltb-false (number_at 0 ws) d.command_due fine.order)
+    let command = command_ok d ws is late.0 fine.count (plain (fields d word.Add) ws fine.each) in (
+      late.0,
+      late.1,
+      record {
+        fits = (command.due, command.line);
+        order = ltb-false (number_at 0 ws) d.command_due fine.order;
+        room = room_left d fine.room;
+      },
+    )
 fits_said d word.Remove ws is at fine =
     let late = at.1 (omega arith) in
-    let command = command_ok d ws is late.0 fine.count fine.each in
-    (late.0, late.1, (command.due, command.line), ltb-false (number_at 0 ws) d.command_due fine.order)
+    let command = command_ok d ws is late.0 fine.count (plain (fields d word.Remove) ws fine.each) in (
+      late.0,
+      late.1,
+      record {
+        fits = (command.due, command.line);
+        order = ltb-false (number_at 0 ws) d.command_due fine.order;
+        room = room_left d fine.room;
+      },
+    )
 fits_said d word.Carry ws is at fine =
     let late = at.1 (omega arith) in
-    let two = two_fields (within 0 (d.config.lines - 1)) (within 1 most_count) 2 0 ws fine.count fine.each in
+    let two = two_fields (within 0 (d.config.lines - 1)) (within 1 most_count) 2 0 ws fine.count (plain (fields d word.Carry) ws fine.each) in
     let some = some_lines d is (let low = late.0 in omega (arith, low)) in
     let line = number_ok 2 0 (d.config.lines - 1) (word_at 0 ws) two.0 in (
       late.0,

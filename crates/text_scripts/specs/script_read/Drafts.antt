@@ -1,11 +1,14 @@
 -- What a draft meets, and what a line may say that stands after those of a draft.
-use Rattle.std.specs.Prelude.{◌≡◌, ◌⊎◌, ⊤, ℕ, ◌-◌, ◌==◌, ◌<◌, ◌≤◌, not, nat_lt, Bool, true, false, List, [], ◌∷◌}
+use Rattle.std.specs.Prelude.{◌≡◌, ◌⊎◌, ⊤, ℕ, ◌+◌, ◌-◌, ◌==◌, ◌<◌, ◌≤◌, not, nat_lt, Bool, true, false, List, [], ◌∷◌}
 use Rattle.std.specs.Prelude.{length, replicate, Option, None, option_map, All}
 use Rattle.std.specs.Option.{option_or}
 use Rattle.law_model.specs.Common.{dues_of, frame_dues, command_dues, IsWithin, HasLosses, IsSize, IsItem, AreItems}
 use Rattle.law_model.specs.Common.{IsEvent, IsOptions, IsStatuses, most_lines, most_ticks, most_count}
 use Rattle.law_model.specs.declared.window_types.Window.{Window}
 use Rattle.law_model.specs.declared.script_types.Config.{Config}
+use Rattle.law_rates.specs.Rates.{IsRate, count_of}
+use Rattle.law_rates.specs.declared.rate_frames.Rate.{Rate}
+use Rattle.law_model.specs.declared.script_types.Item.{Item}
 use Rattle.law_model.specs.declared.script_types.ItemKind.{ItemKind}
 use Rattle.law_model.specs.declared.script_types.ItemKind.TheVariants as item
 use Rattle.text_scripts.specs.declared.script_read.script_fault.LineFault.{LineFault}
@@ -23,8 +26,9 @@ use Rattle.text_lines.specs.declared.text_faults.Names.TheVariants as names
 use Rattle.hex.specs.Hex.{decode_of}
 use Rattle.text_lines.specs.WordsOfLine.{word_at, number_at, octets_of}
 use Rattle.text_lines.specs.Fields.{where_true, within, number_fault, octets_fault, name_fault, fields_fault}
-use Rattle.text_scripts.specs.script_read.Statements.{windows_of, last_end, last_lost}
-use Rattle.law_model.specs.Common.{largest_ring, longest_delay, longest_holdoff, longest_lag, longest_offer, longest_restore, longest_slip, most_packets, most_windows}
+use Rattle.text_scripts.specs.script_read.Statements.{each_fault, windows_of, last_end, last_lost}
+use Rattle.law_model.specs.Common.{largest_ring, longest_delay, longest_holdoff, longest_lag, longest_offer}
+use Rattle.law_model.specs.Common.{longest_restore, longest_slip, most_items, most_packets, most_windows}
 
 -- ---- faults
 -- the fault of line n, which wasn't read
@@ -99,7 +103,12 @@ abbrev pub command_fault : Draft → Keyword → List (List ℕ) → Option Line
 command_fault d k ws =
     option_or (count_fault k 2 ws)
     (option_or (option_map wrong.Field (fields_fault (within 0 (d.config.ticks - 1) ∷ within 0 255 ∷ []) 2 0 ws))
-    (where_true (nat_lt (number_at 0 ws) d.command_due) (wrong.CommandBefore d.command_due)))
+    (option_or (where_true (nat_lt most_items (length d.items + 1)) (wrong.TooMany (length d.items + 1)))
+    (where_true (nat_lt (number_at 0 ws) d.command_due) (wrong.CommandBefore d.command_due))))
+
+-- and of the traffic of a stream, but for what the lines before it leave no room for
+abbrev pub rate_fault : Draft → List (List ℕ) → Option LineFault
+rate_fault d ws = option_or (count_fault word.Stream 5 ws) (each_fault d word.Stream ws)
 
 -- a keyword's place may stand next
 abbrev pub IsPlaced : ℕ → ℕ → Type 0
@@ -138,6 +147,7 @@ pub record IsDraft (d : Draft) : Type 0 where
   pub config : HasConfig d.next d.config
   pub no_items : d.next ≤ 7 → d.items ≡ []
   pub items : AreItems d.config.ticks d.items
+  pub few : length d.items ≤ most_items
   pub frame_due : All (λ due. due ≤ d.frame_due) (frame_dues (dues_of d.items))
   pub command_due : All (λ due. due ≤ d.command_due) (command_dues (dues_of d.items))
   pub no_events : d.next ≤ 8 → d.events ≡ []
@@ -173,6 +183,19 @@ pub record IsNextLost (d : Draft) (first end : ℕ) : Type 0 where
   pub order : last_lost d.config.lost ≤ first
   pub room : length d.config.lost < most_windows
 
+-- and the traffic of a stream
+pub record IsNextStream (d : Draft) (rate : Rate) : Type 0 where
+  pub sound : IsRate rate
+  pub ends : rate.end ≤ d.config.ticks
+  pub order : d.frame_due ≤ rate.first
+  pub room : length d.items + count_of rate ≤ most_items
+
+-- and an item
+pub record IsNextItem (d : Draft) (it : Item) : Type 0 where
+  pub fits : IsItem d.config.ticks it
+  pub order : last_due d it.kind ≤ it.due
+  pub room : length d.items < most_items
+
 abbrev pub Fits : Draft → Statement → Type 0
 Fits d says.Nothing = ⊤
 Fits d (says.Container n) = (d.next ≡ 0) × IsSize n
@@ -187,5 +210,6 @@ Fits d (says.Restore n) = (d.next ≡ 6) × (n ≤ longest_restore) × (d.has_re
 Fits d (says.Statuses n) = (d.next ≡ 6) × IsStatuses n × (d.has_statuses ≡ false)
 Fits d (says.Fail m window) = (6 ≤ d.next) × (d.next ≤ 7) × IsNext d m window
 Fits d (says.Lost first end) = (6 ≤ d.next) × (d.next ≤ 7) × IsNextLost d first end
-Fits d (says.Item it) = (6 ≤ d.next) × (d.next ≤ 8) × IsItem d.config.ticks it × (last_due d it.kind ≤ it.due)
+Fits d (says.Item it) = (6 ≤ d.next) × (d.next ≤ 8) × IsNextItem d it
+Fits d (says.Stream rate) = (6 ≤ d.next) × (d.next ≤ 8) × IsNextStream d rate
 Fits d (says.Event e) = (6 ≤ d.next) × IsEvent d.config.lines e

@@ -18,10 +18,9 @@ pub record ReaderStands (reader : ScriptReader) (text : List ℕ) : Type 0 where
       ≡ said_from script_lines reader.number reader.draft (lines more)
   pub count : reader.number ≤ length text + 1
 
--- it was made by its calls: what its lines say may be walked as far as it goes, with no more items than lines
+-- it was made by its calls: what its lines say may be walked as far as it goes
 pub record IsReader (reader : ScriptReader) : Type 0 where
   pub draft : IsDraft reader.draft
-  pub few : length reader.draft.items + 1 ≤ reader.number
 
 -- so many octets may follow, by the number of lines that were read
 abbrev pub HasNumbersLeft : ScriptReader → ℕ → Type 0

@@ -1,14 +1,23 @@
 -- The lines of a script: what each may say after those before it, which fault it has first, and what it adds to them.
-use Rattle.std.specs.Prelude.{unwrap_or, ℕ, ◌-◌, ◌==◌, ◌&&◌, ◌||◌, nat_le, nat_lt, max, not, Bool, true, false}
+use Rattle.std.specs.Prelude.{unwrap_or, ℕ, ◌+◌, ◌-◌, ◌==◌, ◌&&◌, ◌||◌, nat_le, nat_lt, max, not, Bool, true, false}
 use Rattle.std.specs.Prelude.{List, [], ◌∷◌, ◌++◌, length, map, replicate, Option, Some, None, option_map, slice_index_or, slice_set}
 use Rattle.std.specs.Prelude.{drop, codes, bytes_eq, if◌then◌else◌}
 use Rattle.std.specs.Option.{option_or}
+use Rattle.std.specs.List.{slice_split, list_all}
 use Rattle.text_scripts.specs.declared.script_read.script_fault.LineFault.{LineFault}
 use Rattle.text_scripts.specs.declared.script_read.script_fault.LineFault.TheVariants as wrong
+use Rattle.text_scripts.specs.declared.script_read.script_fault.SizesFault.{SizesFault}
+use Rattle.text_scripts.specs.declared.script_read.script_fault.SizesFault.TheVariants as sizes
+use Rattle.text_lines.specs.declared.text_faults.FieldFault.TheVariants as field
 use Rattle.text_lines.specs.declared.text_faults.Names.TheVariants as names
-use Rattle.text_lines.specs.WordsOfLine.{word_at, is_skipped, number_of, number_at, octets_of}
+use Rattle.text_lines.specs.WordsOfLine.{word_at, is_skipped, is_digit, is_number, number_of, number_at, octets_of}
 use Rattle.text_lines.specs.Fields.{Field, within, any, above, digits, one_of, where_true, fields_fault}
-use Rattle.law_model.specs.Common.{vc3_size, vc4_size, default_options, most_count, most_lines, most_ticks}
+use Rattle.law_rates.specs.Limits.{most_sizes, most_mbits}
+use Rattle.law_rates.specs.Rates.{count_of, due_of}
+use Rattle.law_rates.specs.declared.rate_frames.Rate.{Rate}
+use Rattle.law_model.specs.Common.{vc3_size, vc4_size, default_options, most_count, most_items, most_lines, most_ticks}
+use Rattle.law_model.specs.Common.{shortest_frame, longest_frame}
+use Rattle.law_model.specs.session.Items.{stream_items}
 use Rattle.law_model.specs.declared.window_types.Window.{Window}
 use Rattle.law_model.specs.declared.script_types.Item.{Item}
 use Rattle.law_model.specs.declared.script_types.ItemKind.{ItemKind}
@@ -21,7 +30,8 @@ use Rattle.text_scripts.specs.declared.script_read.script_keyword.Part.TheVarian
 use Rattle.text_scripts.specs.declared.script_read.script_draft.Statement.{Statement}
 use Rattle.text_scripts.specs.declared.script_read.script_draft.Statement.TheVariants as says
 use Rattle.text_scripts.specs.declared.script_read.script_draft.Draft.{Draft}
-use Rattle.law_model.specs.Common.{largest_ring, longest_delay, longest_holdoff, longest_lag, longest_offer, longest_restore, longest_slip, most_packets, most_windows}
+use Rattle.law_model.specs.Common.{largest_ring, longest_delay, longest_holdoff, longest_lag, longest_offer}
+use Rattle.law_model.specs.Common.{longest_restore, longest_slip, most_packets, most_windows}
 
 -- ---- the first word
 -- the words that may begin an event line
@@ -43,6 +53,7 @@ item_keyword w =
     if bytes_eq w (codes "fail") then Some word.Fail
     else if bytes_eq w (codes "lost") then Some word.Lost
     else if bytes_eq w (codes "frame") then Some word.Frame
+    else if bytes_eq w (codes "stream") then Some word.Stream
     else if bytes_eq w (codes "add") then Some word.Add
     else if bytes_eq w (codes "remove") then Some word.Remove
     else event_keyword w
@@ -83,6 +94,7 @@ place word.Statuses = 6
 place word.Fail = 7
 place word.Lost = 7
 place word.Frame = 8
+place word.Stream = 8
 place word.Add = 8
 place word.Remove = 8
 place word.Client = 9
@@ -125,8 +137,8 @@ place_fault next at =
     (where_true (nat_lt at next) (wrong.Part (part_of at) (begun_at next)))
 
 -- ---- the other words
--- what the words after a keyword have to be; how many return packets tell all statuses is a name, as a container and
--- what a sink does are
+-- what the words after a keyword have to be, of a stream those between its sizes and its number; how many return packets
+-- tell all statuses is a name, as a container and what a sink does are
 abbrev pub fields : Draft → Keyword → List Field
 fields d word.Container = one_of names.Containers ∷ []
 fields d word.Lines = within 1 most_lines ∷ []
@@ -141,6 +153,7 @@ fields d word.Statuses = one_of names.Statuses ∷ []
 fields d word.Fail = within 0 (d.config.lines - 1) ∷ any ∷ above d.config.ticks ∷ within 0 longest_slip ∷ []
 fields d word.Lost = any ∷ above most_packets ∷ []
 fields d word.Frame = within 0 (d.config.ticks - 1) ∷ digits 1 longest_offer ∷ []
+fields d word.Stream = within 1 most_mbits ∷ any ∷ above d.config.ticks ∷ []
 fields d word.Add = within 0 (d.config.ticks - 1) ∷ within 0 255 ∷ []
 fields d word.Remove = within 0 (d.config.ticks - 1) ∷ within 0 255 ∷ []
 fields d word.Client = within 1 most_count ∷ []
@@ -151,6 +164,55 @@ fields d word.Back = within 1 most_count ∷ []
 fields d word.Take = within 1 most_count ∷ []
 fields d word.Round = within 1 most_count ∷ []
 fields d word.Drain = []
+
+-- how many words follow it
+abbrev pub takes : Draft → Keyword → ℕ
+takes d word.Stream = 5
+takes d k = length (fields d k)
+
+-- the sizes that a word says: its parts between commas
+abbrev pub parts_of : List ℕ → List (List ℕ)
+parts_of word = slice_split (λ c. c == 44) word
+
+abbrev pub sizes_of : List ℕ → List ℕ
+sizes_of word = map number_of (parts_of word)
+
+abbrev pub is_size : ℕ → Bool
+is_size octets = nat_le shortest_frame octets && nat_le octets longest_frame
+
+-- the form of all parts comes first, then how many they are, then their ranges
+abbrev pub sizes_fault : List ℕ → Option SizesFault
+sizes_fault word =
+    option_or (where_true (not (list_all is_number (parts_of word))) sizes.Digits)
+    (option_or (where_true (nat_lt most_sizes (length (parts_of word))) sizes.Count)
+    (where_true (not (list_all is_size (sizes_of word))) sizes.Range))
+
+-- a number of one to twenty digits, below 2^64, is word 6
+abbrev pub are_digits : ℕ → List ℕ → Bool
+are_digits most word = nat_le 1 (length word) && (nat_le (length word) most && list_all is_digit word)
+
+abbrev pub long_fault : List ℕ → Option LineFault
+long_fault word =
+    option_or (where_true (not (are_digits 20 word)) wrong.LongNumber)
+    (where_true (nat_lt 18446744073709551615 (number_of word)) (wrong.Field (field.Range 6 0 18446744073709551615)))
+
+-- the fault of the words behind the first one, of which the first is word 2 of its line
+abbrev pub each_fault : Draft → Keyword → List (List ℕ) → Option LineFault
+each_fault d word.Stream ws =
+    option_or (option_map wrong.Sizes (sizes_fault (word_at 0 ws)))
+    (option_or (option_map wrong.Field (fields_fault (fields d word.Stream) 3 0 (drop 1 ws)))
+    (long_fault (word_at 4 ws)))
+each_fault d k ws = option_map wrong.Field (fields_fault (fields d k) 2 0 ws)
+
+-- the traffic of a stream
+abbrev pub rate_in : List (List ℕ) → Rate
+rate_in ws = record {
+  sizes = sizes_of (word_at 0 ws);
+  mbits = number_at 1 ws;
+  first = number_at 2 ws;
+  end = number_at 3 ws;
+  number = number_at 4 ws;
+}
 
 -- the payload octets of a container, by its name
 abbrev pub size_of : List ℕ → Option ℕ
@@ -176,7 +238,12 @@ last_end windows = slice_index_or (map (λ (window : Window). window.end) window
 abbrev pub last_lost : List (ℕ × ℕ) → ℕ
 last_lost lost = slice_index_or (map (λ (window : ℕ × ℕ). window.1) lost) (length lost - 1) 0
 
--- an option stands already; a line, or the return path, has 256 windows
+-- how many items there are with those of a line
+abbrev pub items_with : Draft → Keyword → List (List ℕ) → ℕ
+items_with d word.Stream ws = length d.items + count_of (rate_in ws)
+items_with d k ws = length d.items + 1
+
+-- an option stands already; a line, or the return path, has 256 windows; the items are too many
 abbrev pub is_full : Draft → Keyword → List (List ℕ) → Bool
 is_full d word.Sink ws = d.has_sink
 is_full d word.Holdoff ws = d.has_holdoff
@@ -184,42 +251,48 @@ is_full d word.Restore ws = d.has_restore
 is_full d word.Statuses ws = d.has_statuses
 is_full d word.Fail ws = nat_le most_windows (length (windows_of d (number_at 0 ws)))
 is_full d word.Lost ws = nat_le most_windows (length d.config.lost)
+is_full d word.Frame ws = nat_lt most_items (items_with d word.Frame ws)
+is_full d word.Stream ws = nat_lt most_items (items_with d word.Stream ws)
+is_full d word.Add ws = nat_lt most_items (items_with d word.Add ws)
+is_full d word.Remove ws = nat_lt most_items (items_with d word.Remove ws)
 is_full d k ws = false
 
 -- a window begins before the end of the one before it of its line, or of the return path; an item is due before the
--- last one of
--- its kind, frame or command
+-- last one of its kind, frame or command
 abbrev pub is_early : Draft → Keyword → List (List ℕ) → Bool
 is_early d word.Fail ws = nat_lt (number_at 1 ws) (last_end (windows_of d (number_at 0 ws)))
 is_early d word.Lost ws = nat_lt (number_at 0 ws) (last_lost d.config.lost)
 is_early d word.Frame ws = nat_lt (number_at 0 ws) d.frame_due
+is_early d word.Stream ws = nat_lt (number_at 2 ws) d.frame_due
 is_early d word.Add ws = nat_lt (number_at 0 ws) d.command_due
 is_early d word.Remove ws = nat_lt (number_at 0 ws) d.command_due
 is_early d k ws = false
 
 -- ---- the first fault of a line
--- that of an option that stands already, and of a line, or a return path, which is full, by its keyword
-abbrev pub full_fault : Keyword → List (List ℕ) → LineFault
-full_fault word.Sink ws = wrong.Twice word.Sink
-full_fault word.Holdoff ws = wrong.Twice word.Holdoff
-full_fault word.Restore ws = wrong.Twice word.Restore
-full_fault word.Statuses ws = wrong.Twice word.Statuses
-full_fault word.Fail ws = wrong.FullLine (number_at 0 ws)
-full_fault k ws = wrong.FullPath
+-- that of an option that stands already, of a line, or a return path, which is full, and of items, by its keyword
+abbrev pub full_fault : Draft → Keyword → List (List ℕ) → LineFault
+full_fault d word.Sink ws = wrong.Twice word.Sink
+full_fault d word.Holdoff ws = wrong.Twice word.Holdoff
+full_fault d word.Restore ws = wrong.Twice word.Restore
+full_fault d word.Statuses ws = wrong.Twice word.Statuses
+full_fault d word.Fail ws = wrong.FullLine (number_at 0 ws)
+full_fault d word.Lost ws = wrong.FullPath
+full_fault d k ws = wrong.TooMany (items_with d k ws)
 
 -- and of what is early
 abbrev pub early_fault : Draft → Keyword → List (List ℕ) → LineFault
 early_fault d word.Fail ws = wrong.FailureBefore (last_end (windows_of d (number_at 0 ws)))
 early_fault d word.Lost ws = wrong.LossBefore (last_lost d.config.lost)
 early_fault d word.Frame ws = wrong.FrameBefore d.frame_due
+early_fault d word.Stream ws = wrong.FrameBefore d.frame_due
 early_fault d k ws = wrong.CommandBefore d.command_due
 
--- of the words after a first word that may stand there, of which the first is word 2 of its line
+-- of the words after a first word that may stand there
 abbrev pub rest_fault : Draft → Keyword → List (List ℕ) → Option LineFault
 rest_fault d k ws =
-    option_or (where_true (not (length ws == length (fields d k))) (wrong.Count k (length (fields d k)) (length ws)))
-    (option_or (option_map wrong.Field (fields_fault (fields d k) 2 0 ws))
-    (option_or (where_true (is_full d k ws) (full_fault k ws))
+    option_or (where_true (not (length ws == takes d k)) (wrong.Count k (takes d k) (length ws)))
+    (option_or (each_fault d k ws)
+    (option_or (where_true (is_full d k ws) (full_fault d k ws))
     (where_true (is_early d k ws) (early_fault d k ws))))
 
 abbrev pub known_fault : Draft → List (List ℕ) → Option Keyword → Option LineFault
@@ -246,6 +319,7 @@ said word.Fail ws =
     says.Fail (number_at 0 ws) (record { first = number_at 1 ws; end = number_at 2 ws; slip = number_at 3 ws })
 said word.Lost ws = says.Lost (number_at 0 ws) (number_at 1 ws)
 said word.Frame ws = says.Item (record { due = number_at 0 ws; kind = item.Frame (octets_of (word_at 1 ws)) })
+said word.Stream ws = says.Stream (rate_in ws)
 said word.Add ws = says.Item (record { due = number_at 0 ws; kind = item.Add (number_at 1 ws) })
 said word.Remove ws = says.Item (record { due = number_at 0 ws; kind = item.Remove (number_at 1 ws) })
 said word.Client ws = says.Event (event.Client (number_at 0 ws))
@@ -301,6 +375,11 @@ after d (says.Fail m window) = record d {
 after d (says.Lost first end) =
     record d { next = 7; config = record d.config { lost = d.config.lost ++ (first, end) ∷ [] } }
 after d (says.Item it) = after_item d it it.kind
+after d (says.Stream rate) = record d {
+  next = 8;
+  items = d.items ++ stream_items rate;
+  frame_due = due_of rate (count_of rate - 1);
+}
 after d (says.Event e) = record d { next = 9; events = d.events ++ e ∷ [] }
 
 -- before the first line. The container is a VC-4 where no line says another, and the options are those of a script

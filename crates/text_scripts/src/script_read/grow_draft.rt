@@ -1,8 +1,10 @@
 //! What a line adds to a draft.
-ghost use Rattle.std.specs.Prelude.{◌≡◌, ◌<◌, ◌≤◌, ◌∷◌, ◌++◌, [], length, OnOk, slice_index_or, slice_set};
+ghost use Rattle.std.specs.Prelude.{◌≡◌, ◌+◌, ◌<◌, ◌≤◌, ◌∷◌, ◌++◌, [], length, OnOk, slice_index_or, slice_set};
+ghost use Rattle.law_rates.specs.Rates.{IsRate, count_of};
 ghost use Rattle.law_model.specs.Common.{most_items, longest_offer};
 ghost use Rattle.law_model.specs.session.Items.{octets_in_kind};
 ghost use Rattle.text_scripts.specs.script_read.Statements.{after, after_item, at_first};
+ghost use Rattle.text_scripts.specs.declared.script_read.script_draft.Statement.{Statement};
 ghost use Rattle.text_scripts.specs.script_read.Drafts.{IsDraft, Fits};
 
 use crate::script_read::script_draft::{Draft, Statement};
@@ -10,6 +12,7 @@ use crate::window_lists::no_windows;
 use law_model::{
     Config, Delays, EventList, Item, ItemKind, ItemList, LostList, Options, Window, WindowLists,
 };
+use law_rates::Rate;
 use std::alloc::{AllocError, Global};
 
 /// Appends a window to those of a line.
@@ -66,11 +69,22 @@ fn add_item(draft: &mut Draft, item: Item) -> Result<(), AllocError>
     Ok(())
 }
 
+/// Adds the frames of a rate.
+fn add_stream(draft: &mut Draft, rate: &Rate) -> Result<(), AllocError>
+    requires sound { IsRate rate.now }
+    requires few { length draft.old.items + count_of rate.now ≤ most_items }
+    ensures { OnOk result (draft.new ≡ after draft.old (Statement.Stream rate.now)) }
+{
+    draft.items.push_stream(rate)?;
+    draft.frame_due = draft.items.head(draft.items.len() - 1).due;
+    draft.next = 8;
+    Ok(())
+}
+
 /// Adds what a line says.
 pub(super) fn add(alloc: Global, draft: &mut Draft, said: Statement) -> Result<(), AllocError>
     requires config { IsDraft draft.old }
     requires fits { Fits draft.old said }
-    requires few { length draft.old.items < most_items }
     ensures { OnOk result (draft.new ≡ after draft.old said) }
 {
     match said {
@@ -125,6 +139,7 @@ pub(super) fn add(alloc: Global, draft: &mut Draft, said: Statement) -> Result<(
             draft.config.lost.0.push((first, end))?;
         }
         Statement::Item(item) => return add_item(draft, item),
+        Statement::Stream(rate) => return add_stream(draft, &rate),
         Statement::Event(event) => {
             draft.next = 9;
             draft.events.0.push(event)?;

@@ -1,6 +1,9 @@
 //! The words of items and of event lines that name a line.
-ghost use Rattle.std.specs.Prelude.{◌≡◌, ◌≤◌, ℕ, List, IfSome, IfOk, IfErr, None, Some};
+ghost use Rattle.std.specs.Prelude.{◌≡◌, ◌≤◌, ◌+◌, ℕ, List, nat_lt, length, true, false};
+ghost use Rattle.std.specs.Prelude.{IfSome, IfOk, IfErr, OnOk, None, Some};
+ghost use Rattle.law_model.specs.Common.{most_items};
 ghost use Rattle.text_lines.specs.WordsOfLine.{words, number_at};
+ghost use Rattle.text_scripts.specs.declared.script_read.script_fault.LineFault.{LineFault};
 ghost use Rattle.text_scripts.specs.script_read.Lifted.{IsStop};
 ghost use Rattle.text_scripts.specs.script_read.Statements.{rest_fault, said};
 ghost use Rattle.text_scripts.specs.script_read.Drafts.{IsDraft, command_fault, IsFrameOf};
@@ -9,9 +12,25 @@ use crate::script_read::script_draft::{Draft, Statement};
 use crate::script_read::script_fault::{LineFault, LineStop};
 use crate::script_read::script_keyword::Keyword;
 use crate::script_read::word_count_fault::count_fault;
-use law_model::{EventLine, Item, ItemKind, LONGEST_OFFER, MOST_COUNT, Octets};
+use law_model::{EventLine, Item, ItemKind, LONGEST_OFFER, MOST_COUNT, MOST_ITEMS, Octets};
 use std::alloc::Global;
 use text_lines::{next_word, number_within, octets_within, two_words};
+
+/// Tests whether there may be so many items more.
+pub(super) fn check_room(draft: &Draft, more: u64) -> Result<(), LineFault>
+    requires { more ≤ 700000000000000 }
+    ensures ok { OnOk result (nat_lt most_items (length draft.now.items + more) ≡ false) }
+    ensures full { IfErr result (λ _.
+        nat_lt most_items (length draft.now.items + more) ≡ true) }
+    ensures err { IfErr result (λ fault.
+        fault ≡ LineFault.TooMany (length draft.now.items + more)) }
+{
+    let items = u64::from(draft.items.len()) + more;
+    if items > u64::from(MOST_ITEMS) {
+        return Err(LineFault::TooMany { items });
+    }
+    Ok(())
+}
 
 /// The word of when a frame is due, and its octets, where nothing but a space stands between the two and its digits
 /// end the line. Digits have no space among them, so that they aren't searched for one.
@@ -41,6 +60,9 @@ fn due_frame(draft: &Draft, due: &[u8], octets: Vec<u8>) -> Result<Statement, Li
         Ok(due) => due as u32,
         Err(fault) => return Err(LineStop::Fault(LineFault::Field(fault))),
     };
+    if let Err(fault) = check_room(draft, 1) {
+        return Err(LineStop::Fault(fault));
+    }
     if due < draft.frame_due {
         return Err(LineStop::Fault(LineFault::FrameBefore {
             due: draft.frame_due,
@@ -69,6 +91,9 @@ fn spaced_frame(alloc: Global, draft: &Draft, rest: &[u8]) -> Result<Statement, 
         Err(fault) => return Err(LineStop::Fault(LineFault::Field(fault))),
     };
     let octets = octets_within(alloc, digits, 3, 1, LONGEST_OFFER)?;
+    if let Err(fault) = check_room(draft, 1) {
+        return Err(LineStop::Fault(fault));
+    }
     if due < draft.frame_due {
         return Err(LineStop::Fault(LineFault::FrameBefore {
             due: draft.frame_due,
@@ -119,6 +144,7 @@ pub(super) fn read_due_line(
         Ok(line) => line as u8,
         Err(fault) => return Err(LineFault::Field(fault)),
     };
+    check_room(draft, 1)?;
     if due < draft.command_due {
         return Err(LineFault::CommandBefore {
             due: draft.command_due,

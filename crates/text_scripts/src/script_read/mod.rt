@@ -16,10 +16,11 @@ mod script_keyword;
 mod script_laws;
 mod script_limits;
 mod script_reader;
+mod stream_words;
 mod whole_script;
 mod word_count_fault;
 
-pub use script_fault::{LineFault, ScriptFault};
+pub use script_fault::{LineFault, ScriptFault, SizesFault};
 pub use script_keyword::{Keyword, Part};
 pub use script_laws::{fault_law, valid_law};
 pub use script_limits::limit_fault;

@@ -12,6 +12,7 @@ use crate::script_read::option_words::read_option;
 use crate::script_read::script_draft::{Draft, Statement};
 use crate::script_read::script_fault::{LineFault, LineStop};
 use crate::script_read::script_keyword::{Keyword, check_place};
+use crate::script_read::stream_words::read_stream;
 use crate::script_read::word_count_fault::count_fault;
 use law_model::{
     EventLine, Item, ItemKind, LARGEST_RING, LONGEST_LAG, MOST_COUNT, MOST_LINES, MOST_TICKS,
@@ -125,6 +126,7 @@ fn read_plain(draft: &Draft, keyword: Keyword, rest: &[u8]) -> Result<Statement,
             })),
             Err(fault) => Err(fault),
         },
+        Keyword::Stream => read_stream(draft, rest),
         Keyword::Carry => read_carry(draft, rest),
         Keyword::Drain => match next_word(rest) {
             None => Ok(Statement::Event(EventLine::Drain)),

@@ -1,6 +1,7 @@
 //! What a line of a script says, and what its lines so far say.
 
 use law_model::{Config, Delays, EventLine, EventList, Item, ItemList, Window};
+use law_rates::Rate;
 
 /// What a line says.
 #[derive(Drop)]
@@ -33,6 +34,8 @@ pub(super) enum Statement {
     Lost(u32, u32),
     /// An item.
     Item(Item),
+    /// Frames at a rate, each of which is an item.
+    Stream(Rate),
     /// An event line.
     Event(EventLine),
 }

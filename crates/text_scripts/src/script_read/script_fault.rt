@@ -9,6 +9,17 @@ use std::alloc::{AllocError, AllocFailed};
 use text_lines::{FieldFault, FieldStop};
 use thiserror::Error;
 
+/// What is wrong with the sizes of the frames of a stream.
+#[derive(Clone, Copy, Debug)]
+pub enum SizesFault {
+    /// One of them isn't one to ten decimal digits.
+    Digits,
+    /// There are more than 16 of them.
+    Count,
+    /// One of them isn't from 64 to 9,600.
+    Range,
+}
+
 /// What is wrong with a line of a script, with what can be said of how to write it.
 #[derive(Clone, Copy, Debug)]
 pub enum LineFault {
@@ -22,6 +33,10 @@ pub enum LineFault {
     },
     /// A word isn't what it has to be.
     Field(FieldFault),
+    /// Word 2 doesn't say the sizes of frames.
+    Sizes(SizesFault),
+    /// Word 6 isn't a number of one to twenty decimal digits.
+    LongNumber,
     /// This line of the configuration has to stand here.
     Missing(Keyword),
     /// The line is of the part `this`, which stands before `begun`, which has begun.
@@ -37,11 +52,15 @@ pub enum LineFault {
     },
     /// The return path has 256 losses already.
     FullPath,
+    /// With this line there are `items` items, which are too many.
+    TooMany {
+        items: u64,
+    },
     /// A failure begins before the one before it of its line has ended, in tick `end`.
     FailureBefore {
         end: u32,
     },
-    /// A loss begins before the one before it has ended, in tick `end`.
+    /// A loss begins before the one before it has ended, at return packet `end`.
     LossBefore {
         end: u32,
     },
@@ -119,13 +138,13 @@ impl<T: Drop> From<AllocFailed<T>> for LineStop {
 #[derive(Clone, Copy, Debug, Error)]
 pub enum ScriptFault {
     /// Line `number` is the first faulty one.
-    #[error("a line is faulty")]
+    #[error("line {number} is faulty")]
     Line {
         number: u32,
         fault: LineFault,
     },
     /// Window `window` of line `line` lets `slip` containers vanish, which is as many as it damages, or more.
-    #[error("a window lets as many containers vanish as it damages")]
+    #[error("window {window} of line {line} lets {slip} containers vanish")]
     Slip {
         line: u8,
         window: u16,
@@ -133,7 +152,7 @@ pub enum ScriptFault {
     },
     /// A ring of `ring` cells can't hold what lies between the delays `slow` and `fast`, in frames, and the
     /// greatest slip.
-    #[error("the ring is too small")]
+    #[error("delays from {fast} to {slow} and slips of {slip} don't fit a ring of {ring}")]
     Spread {
         slow: u16,
         fast: u16,
@@ -141,7 +160,7 @@ pub enum ScriptFault {
         ring: u16,
     },
     /// The lag is below the least one that the delay `slow` and the greatest slip allow, in packets.
-    #[error("the lag is too small")]
+    #[error("a lag of {lag} is below {least}")]
     Lag {
         lag: u16,
         least: u32,

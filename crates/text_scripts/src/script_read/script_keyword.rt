@@ -37,6 +37,8 @@ pub enum Keyword {
     Lost,
     /// A frame.
     Frame,
+    /// Frames at a rate.
+    Stream,
     /// The addition of a line.
     Add,
     /// The removal of a line.
@@ -110,6 +112,8 @@ impl Keyword {
             Some(Keyword::Lost)
         } else if spells(word, b"frame") {
             Some(Keyword::Frame)
+        } else if spells(word, b"stream") {
+            Some(Keyword::Stream)
         } else if spells(word, b"add") {
             Some(Keyword::Add)
         } else if spells(word, b"remove") {
@@ -158,7 +162,7 @@ impl Keyword {
             Keyword::Ticks => 5,
             Keyword::Sink | Keyword::Holdoff | Keyword::Restore | Keyword::Statuses => 6,
             Keyword::Fail | Keyword::Lost => 7,
-            Keyword::Frame | Keyword::Add | Keyword::Remove => 8,
+            Keyword::Frame | Keyword::Stream | Keyword::Add | Keyword::Remove => 8,
             Keyword::Client
             | Keyword::Operator
             | Keyword::Tick

@@ -1,7 +1,7 @@
 //! What the definition of the language means, apart from how it computes.
-ghost use Rattle.std.specs.Prelude.{◌≡◌, ◌↔◌, ◌≤◌, ℕ, List, length, Ok, Err};
+ghost use Rattle.std.specs.Prelude.{◌≡◌, ◌↔◌, ℕ, List, Ok, Err};
 ghost use Rattle.std.specs.Str.Lines.{lines};
-ghost use Rattle.law_model.specs.Common.{IsValid, HasFewLosses, longest_input};
+ghost use Rattle.law_model.specs.Common.{IsValid, HasFewLosses};
 ghost use Rattle.law_model.specs.declared.script_types.Script.{Script};
 ghost use Rattle.text_lines.specs.FirstFault.{IsFirstFault};
 ghost use Rattle.text_scripts.specs.declared.script_read.script_fault.LineFault.{LineFault};
@@ -20,11 +20,11 @@ pub fn fault_law()
         (script_of text ≡ Ok script) ↔ IsScriptOf (lines text) script }
 {}
 
-/// A text of at most 67,108,864 octets that is a script says one that can be walked: its numbers are in their
-/// ranges, its windows and items in order, and its rings and lag fit. It has at most 256 return windows.
+/// A text that is a script, however long, says one that can be walked: its numbers are in their ranges, its windows
+/// and items in order, and its rings and lag fit. It has at most 256 return windows.
 pub fn valid_law()
-    ensures valid { (text : List ℕ) (script : Script) → length text ≤ longest_input →
-        script_of text ≡ Ok script → IsValid script }
+    ensures valid { (text : List ℕ) (script : Script) → script_of text ≡ Ok script →
+        IsValid script }
     ensures few_lost { (text : List ℕ) (script : Script) → script_of text ≡ Ok script →
         HasFewLosses script }
 {}

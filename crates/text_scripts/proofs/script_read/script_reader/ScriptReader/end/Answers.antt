@@ -15,5 +15,4 @@ returns-clause-whole c = config_whole c.args.self.draft (omega arith)
 pub returns-clause-untested : goal.returns-clause-untested
 returns-clause-untested c =
     subst IsUntested (sym c.finished.ensures)
-    (IsUntested-draft c.args.self.draft c.requires.reader.draft (omega arith)
-    (omega (arith, c.requires.reader.few, c.requires.room)))
+    (IsUntested-draft c.args.self.draft c.requires.reader.draft (omega arith))

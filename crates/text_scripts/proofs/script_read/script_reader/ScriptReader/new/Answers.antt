@@ -1,12 +1,8 @@
 -- What is said before the first line.
-use Rattle.std.proofs.Common.{length, ap, sym, subst, arith}
-use Rattle.text_scripts.specs.declared.script_read.script_draft.Draft.{Draft}
+use Rattle.std.proofs.Common.{sym, subst}
 use Rattle.text_scripts.specs.script_read.Drafts.{IsDraft}
 use Rattle.text_scripts.proofs.ScriptDraftGrowthLaws.{IsDraft-first}
 use Rattle.text_scripts.proofs.script_read.script_reader.ScriptReader.new.Goals as goal
 
 pub returns-clause-reader : goal.returns-clause-reader
-returns-clause-reader c = record {
-  draft = subst IsDraft (sym c.no_lines.ensures) IsDraft-first;
-  few = (let size = ap (λ (d : Draft). length d.items) c.no_lines.ensures in omega (arith, size));
-}
+returns-clause-reader c = record { draft = subst IsDraft (sym c.no_lines.ensures) IsDraft-first }

@@ -1,11 +1,10 @@
 -- What its lines say with this one.
-use Rattle.std.proofs.Common.{length, ap, sym, subst, arith, ◌∙◌}
+use Rattle.std.proofs.Common.{ap, sym, subst, ◌∙◌}
 use Rattle.text_lines.specs.WordsOfLine.{words}
-use Rattle.text_scripts.specs.declared.script_read.script_draft.Draft.{Draft}
 use Rattle.text_scripts.specs.declared.script_read.script_draft.Statement.{Statement}
 use Rattle.text_scripts.specs.script_read.Statements.{after}
 use Rattle.text_scripts.specs.script_read.Drafts.{IsDraft, Fits}
-use Rattle.text_scripts.proofs.ScriptDraftGrowthLaws.{IsDraft-after, items_after}
+use Rattle.text_scripts.proofs.ScriptDraftGrowthLaws.{IsDraft-after}
 use Rattle.text_scripts.proofs.ScriptLineAndFirstFaultLaws.{stop_told}
 use Rattle.text_scripts.proofs.StatementAndWordFaultLaws.{fits_words}
 use Rattle.text_scripts.proofs.script_read.script_reader.ScriptReader.take_line.Goals as goal
@@ -25,9 +24,6 @@ returns-in-Ok-add-clause-reader c =
       draft = subst IsDraft (sym c.in-Ok-add.ensures)
           (IsDraft-after c.args.self.now.draft c.in-Ok.said c.requires.reader.draft
           (subst (λ (said : Statement). Fits c.args.self.now.draft said) (sym c.in-Ok.ensures.ok.1) fits));
-      few =
-          (let size = ap (λ (d : Draft). length d.items) c.in-Ok-add.ensures in
-          omega (arith, c.requires.reader.few, size, items_after c.args.self.now.draft c.in-Ok.said));
     }
 
 pub returns-in-Ok-add-clause-adds : goal.returns-in-Ok-add-clause-adds

@@ -1,0 +1,110 @@
+-- The words of a stream: the parts of a word between commas, and that words without a fault say a rate.
+use Rattle.std.proofs.Common.{◌≡◌, ◌≢◌, ℕ, ◌+◌, ◌-◌, ◌≤◌, ◌==◌, nat_le, nat_lt, not, true, false, List, [], ◌∷◌}
+use Rattle.std.proofs.Common.{◌++◌, length, All, refl, subst, ap, sym, ◌∙◌, arith, None, option_map}
+use Rattle.std.specs.List.{list_all}
+use Rattle.std.specs.Option.{option_or}
+use Rattle.std.proofs.lemmas.Bool.{ne_eqb, not-false, leb-true, ltb-false, eqb-true, and_parts}
+use Rattle.std.proofs.lemmas.List.{length-map}
+use Rattle.std.proofs.lemmas.List.Elements.{All-weaker, All-nil, All-cons}
+use Rattle.std.proofs.lemmas.List.Splits.{slice_split_at, slice_split_none, length-slice_split}
+use Rattle.law_rates.specs.Limits.{most_sizes, most_mbits}
+use Rattle.law_rates.specs.Rates.{IsRate}
+use Rattle.law_rates.specs.declared.rate_frames.Rate.{Rate}
+use Rattle.law_rates.proofs.RateFrameLaws.{AreSizes}
+use Rattle.law_model.specs.Common.{shortest_frame, longest_frame}
+use Rattle.text_lines.specs.Cut.{Lacks}
+use Rattle.text_lines.specs.Fields.{fields_fault, field_fault, within, any, above, where_true}
+use Rattle.text_lines.specs.WordsOfLine.{number_of, is_number}
+use Rattle.text_lines.proofs.TextLineAndWordLaws.{or_none, where_none, map_none, number_ok}
+use Rattle.text_scripts.specs.declared.script_read.script_fault.SizesFault.TheVariants as sizes
+use Rattle.text_scripts.specs.declared.script_read.script_fault.LineFault.TheVariants as wrong
+use Rattle.text_scripts.specs.declared.script_read.script_keyword.Keyword.TheVariants as word
+use Rattle.text_scripts.specs.declared.script_read.script_draft.Draft.{Draft}
+use Rattle.text_scripts.specs.script_read.Statements.{parts_of, sizes_of, is_size, sizes_fault, long_fault, each_fault, rate_in}
+use Rattle.text_scripts.specs.script_read.Drafts.{IsDraft, rate_fault}
+
+-- ---- parts
+no_comma : (word : List ℕ) → Lacks 44 word → All (λ c. (c == 44) ≡ false) word
+no_comma word lacks = All-weaker (λ c. c ≢ 44) (λ c. (c == 44) ≡ false) (λ c other. ne_eqb c 44 other) word lacks
+
+pub parts_cut : (word part later : List ℕ) → Lacks 44 part → word ≡ part ++ 44 ∷ later →
+    parts_of word ≡ part ∷ parts_of later
+parts_cut word part later lacks is =
+    ap parts_of is ∙ slice_split_at (λ c. c == 44) part 44 later (no_comma part lacks) refl
+
+pub parts_last : (word : List ℕ) → Lacks 44 word → parts_of word ≡ word ∷ []
+parts_last word lacks = slice_split_none (λ c. c == 44) word (no_comma word lacks)
+
+-- ---- sizes
+are_sizes : (ns : List ℕ) → list_all is_size ns ≡ true → AreSizes ns
+are_sizes [] all = All-nil (λ size. (shortest_frame ≤ size) × (size ≤ longest_frame))
+are_sizes (n ∷ ns) all =
+    let parts = and_parts (is_size n) (list_all is_size ns) all in
+    let bounds = and_parts (nat_le shortest_frame n) (nat_le n longest_frame) parts.0 in
+    All-cons (λ size. (shortest_frame ≤ size) × (size ≤ longest_frame)) n ns
+    (leb-true shortest_frame n bounds.0, leb-true n longest_frame bounds.1) (are_sizes ns parts.1)
+
+record FitRate (ns : List ℕ) : Type 0 where
+  some : 1 ≤ length ns
+  few : length ns ≤ most_sizes
+  each : AreSizes ns
+
+sizes_fit : (word : List ℕ) → sizes_fault word ≡ None → FitRate (sizes_of word)
+sizes_fit word none =
+    let many = nat_lt most_sizes (length (parts_of word)) in
+    let range = not (list_all is_size (sizes_of word)) in
+    let one = or_none (where_true (not (list_all is_number (parts_of word))) sizes.Digits)
+    (option_or (where_true many sizes.Count) (where_true range sizes.Range)) none in
+    let two = or_none (where_true many sizes.Count) (where_true range sizes.Range) one.1 in
+    let few = ltb-false most_sizes (length (parts_of word)) (where_none many sizes.Count two.0) in
+    let all = not-false (list_all is_size (sizes_of word)) (where_none range sizes.Range two.1) in
+    let size = length-map (parts_of word) number_of in
+    let some = length-slice_split (λ c. c == 44) word in
+    record { some = omega (arith, size, some); few = omega (arith, size, few); each = are_sizes (sizes_of word) all }
+
+-- ---- the rate
+pub record SaysRate (d : Draft) (ws : List (List ℕ)) : Type 0 where
+  pub sound : IsRate (rate_in ws)
+  pub ends : (rate_in ws).end ≤ d.config.ticks
+
+pub says_rate : (d : Draft) (ws : List (List ℕ)) → IsDraft d → 6 ≤ d.next → length ws ≡ 5 →
+    each_fault d word.Stream ws ≡ None → SaysRate d ws
+says_rate d (w ∷ m ∷ f ∷ e ∷ n ∷ []) is late size none =
+    let ticks = d.config.ticks in
+    let all = within 1 most_mbits ∷ any ∷ above ticks ∷ [] in
+    let rest = f ∷ e ∷ n ∷ [] in
+    let one = or_none (option_map wrong.Sizes (sizes_fault w))
+    (option_or (option_map wrong.Field (fields_fault all 3 0 (m ∷ rest))) (long_fault n)) none in
+    let two = or_none (option_map wrong.Field (fields_fault all 3 0 (m ∷ rest))) (long_fault n) one.1 in
+    let each = map_none wrong.Field (fields_fault all 3 0 (m ∷ rest)) two.0 in
+    let first = or_none (field_fault (within 1 most_mbits) 3 0 m)
+    (fields_fault (any ∷ above ticks ∷ []) 4 (number_of m) rest) each in
+    let second = or_none (field_fault any 4 (number_of m) f)
+    (fields_fault (above ticks ∷ []) 5 (number_of f) (e ∷ n ∷ [])) first.1 in
+    let third = or_none (field_fault (above ticks) 5 (number_of f) e) None second.1 in
+    let mbits = number_ok 3 1 most_mbits m first.0 in
+    let end = number_ok 5 (number_of f + 1) ticks e third.0 in
+    let fit = sizes_fit w (map_none wrong.Sizes (sizes_fault w) one.0) in
+    let most = is.config.ticks late in
+    record {
+      sound = record {
+        some = fit.some;
+        few = fit.few;
+        sizes = fit.each;
+        moves = mbits.0;
+        slow = mbits.1;
+        before = omega (arith, end.0);
+        end = omega (arith, end.1, most.1);
+      };
+      ends = end.1;
+    }
+says_rate d ws is late size none = absurd (omega (arith, size))
+
+-- words without a fault say a rate
+pub rate_sound : (d : Draft) (ws : List (List ℕ)) (rate : Rate) → IsDraft d → 6 ≤ d.next → rate_fault d ws ≡ None →
+    rate ≡ rate_in ws → IsRate rate
+rate_sound d ws rate is late none same =
+    let count = wrong.Count word.Stream 5 (length ws) in
+    let parts = or_none (where_true (not (length ws == 5)) count) (each_fault d word.Stream ws) none in
+    let five = eqb-true (length ws) 5 (not-false (length ws == 5) (where_none (not (length ws == 5)) count parts.0)) in
+    subst IsRate (sym same) (says_rate d ws is late five parts.1).sound
