@@ -13,7 +13,7 @@ ghost use Rattle.pair_engine.specs.Ways.{IsNewWay};
 use crate::pair_answers::{PairMoved, moved_on};
 use crate::pair_way::PairWay;
 use crate::ways_meet::{take_way_row, tick_both, tick_stall};
-use law_model::{FrameOut, Refusal, Script, Totals};
+use law_model::{FrameOut, Refusals, Script, Totals};
 use law_pair::{PairEvent, Way};
 use std::alloc::{AllocError, Global};
 use std::marker::Model;
@@ -146,9 +146,8 @@ impl Pair {
     }
 
     /// The items of a way that were refused, in the order of its script.
-    pub fn refusals(&self, way: Way) -> &[(u32, Refusal)]
-        ensures { result.now
-            ≡ refusals_of (leg_on self.now way) (counts_on self.now.counts way) }
+    pub fn refusals(&self, way: Way) -> Refusals<'_>
+        ensures { result ≡ refusals_of (leg_on self.now way) (counts_on self.now.counts way) }
     {
         match way {
             Way::There => self.there.landing.refusals(),

@@ -1,17 +1,14 @@
 //! The next item of a way: by due tick, and of equal ones in item order.
 
-ghost use Rattle.std.specs.Prelude.{◌≡◌, ◌<◌, ◌==◌, ◌&&◌, ◌||◌, nat_lt, if◌then◌else◌, length, slice_get, Some, None};
-ghost use Rattle.std.specs.Prelude.{IfSome};
+ghost use Rattle.std.specs.Prelude.{◌≡◌, ◌==◌, ◌&&◌, ◌||◌, nat_lt, if◌then◌else◌, Some, None, IfSome};
 ghost use Rattle.law_model.specs.Common.{dues_of};
-ghost use Rattle.law_model.specs.declared.script_types.Item.{Item};
 ghost use Rattle.law_pair.specs.Common.{left_after, first_due};
-ghost use Rattle.terminal_group.specs.Item.{kind_of};
 ghost use Rattle.terminal_group.specs.Landed.{next_number, due_at};
 ghost use Rattle.walk_engine.specs.Common.{answer_by};
 ghost use Rattle.pair_engine.specs.WayCalls.{due_of_next, found_by, next_in, AreInOrder};
 
-use law_model::{Refusal, Script};
-use terminal_group::{ItemRef, Landing, handed};
+use law_model::Refusal;
+use terminal_group::Landing;
 use walk_engine::walk_core::Moved;
 
 /// An item that lands next.
@@ -68,15 +65,6 @@ fn sooner(a: NextItem, b: NextItem) -> NextItem
     } else {
         a
     }
-}
-
-/// The item of a number, as it is handed in.
-pub(crate) fn item_at(script: &Script, number: u32) -> ItemRef<'_>
-    requires { number < length script.now.items }
-    ensures { (item : Item) → slice_get script.now.items number ≡ Some item →
-        kind_of result ≡ item.kind }
-{
-    handed(&script.items.0[number as usize].kind)
 }
 
 /// What an item answers that lands, and is refused or not.

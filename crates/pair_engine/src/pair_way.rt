@@ -13,12 +13,12 @@ ghost use Rattle.pair_engine.specs.ToldAndHeard.{tells_next, told_now, left_unto
 ghost use Rattle.pair_engine.specs.WayCalls.{Goes, IsQuiet};
 ghost use Rattle.pair_engine.specs.Ways.{StandsAs, LandedAs, way_counts, IsNewCore, IsNewWay};
 
-use crate::next_items::{item_at, landed, next_item};
+use crate::next_items::{landed, next_item};
 use crate::said_packets::SaidRing;
-use law_model::{Script, StallCause};
+use law_model::{FrameRoom, Script, StallCause};
 use member_rows::lcas_packet::Packet;
 use std::alloc::{AllocError, Global};
-use terminal_group::Landing;
+use terminal_group::{Landing, lent_item};
 use walk_engine::walk_core::{Moved, WayCore};
 
 /// One way of a pair.
@@ -27,6 +27,8 @@ pub(crate) struct PairWay {
     pub(crate) script: Script,
     /// Which of its items have landed.
     pub(crate) landing: Landing,
+    /// A frame that is drawn is lent from here.
+    room: FrameRoom,
     /// Its direction.
     pub(crate) core: WayCore,
     /// The return packets that its sink has said and that no packet of the other way has told.
@@ -39,6 +41,7 @@ impl Drop for PairWay {
         let PairWay {
             script: _,
             landing: _,
+            room: _,
             core: _,
             said: _,
         } = self;
@@ -52,9 +55,11 @@ impl PairWay {
         ensures { IfOk result (λ own. IsNewWay script own) }
     {
         let (landing, core, said) = open_parts(alloc, &mut script)?;
+        let room = FrameRoom::new(alloc)?;
         Ok(PairWay {
             script,
             landing,
+            room,
             core,
             said,
         })
@@ -77,7 +82,8 @@ impl PairWay {
         if self.core.ticks() < next.due {
             return Moved::Stalled(StallCause::NotDue { due: next.due });
         }
-        let why = self.core.land(item_at(&self.script, next.number));
+        let lent = self.script.items.lend(next.number, &mut self.room);
+        let why = self.core.land(lent_item(lent, &self.room));
         self.landing.land(next.client, next.number, why);
         landed(why)
     }

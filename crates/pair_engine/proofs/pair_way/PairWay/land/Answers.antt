@@ -1,5 +1,6 @@
 -- The next item lands, or stalls.
-use Rattle.std.proofs.Common.{◌≤◌, None, refl, sym, ◌∙◌, ap, subst, arith, is_some}
+use Rattle.std.proofs.Common.{◌≡◌, ◌≤◌, slice_get, Some, None, refl, sym, ◌∙◌, ap, subst, arith, is_some}
+use Rattle.law_model.specs.declared.script_types.Item.{Item}
 use Rattle.law_model.specs.session.Scenario.{packets_in}
 use Rattle.terminal_group.specs.Item.{kind_of}
 use Rattle.terminal_group.specs.Landed.{HasPassed, next_number}
@@ -21,8 +22,8 @@ returns-then-ticks-next-clause-goes c other stands known =
     goes-early c.args.self.now other stands known c.next_item.result c.next_item.ensures.first
     c.in-Some.next (sym c.in-Some.is) (omega (arith, early, at))
 
-pub item_at-requires : goal.item_at-requires
-item_at-requires c =
+pub lend-lent-requires : goal.lend-lent-requires
+lend-lent-requires c =
     let own = c.args.self.now in
     let (other, stands, known) = c.requires in
     (number-in (way_of own.script other) (packets_in own.core.sink.taken) own.core stands own.landing known
@@ -38,10 +39,12 @@ returns-clause-goes c other stands known =
     let at = c.ticks.ensures in
     let dues = c.in-Some.ensures.due in
     let late : next.due ≤ own.core.source.core.ticks = omega (arith, low, at) in
+    let lends : (item : Item) → slice_get own.script.items next.number ≡ Some item →
+    kind_of c.lent_item.result ≡ item.kind = λ item at. c.lent_item.ensures ∙ c.lend-lent.ensures item at in
     let kind = land-kind leg backs own.core stands own.landing known next.client next.number
-    (kind_of c.item_at.result) c.in-Some.ensures.number c.item_at.ensures in
+    (kind_of c.lent_item.result) c.in-Some.ensures.number lends in
     let due = due-in leg backs own.core stands own.landing known next.client next.number
-    (kind_of c.item_at.result) c.in-Some.ensures.number c.item_at.ensures (omega (arith, late, dues)) in
+    (kind_of c.lent_item.result) c.in-Some.ensures.number lends (omega (arith, late, dues)) in
     let makes : Makes leg backs (landing_of next.client) own.core c.land-why.new.self
     (answer_by None c.land-why.result) =
     subst (λ client. Makes leg backs (landing_of client) own.core c.land-why.new.self
@@ -52,7 +55,7 @@ returns-clause-goes c other stands known =
     let goes = goes-landed own other stands known c.next_item.result c.next_item.ensures.first next
     (sym c.in-Some.is) late moves c.land-why.new.self c.land-why.result makes rows in
     let landed = land-known leg backs own.core stands own.landing known c.land.new.self next.number
-    (kind_of c.item_at.result) c.land-why.result due (ap (next_number own.landing) kind ∙ c.in-Some.ensures.number)
+    (kind_of c.lent_item.result) c.land-why.result due (ap (next_number own.landing) kind ∙ c.in-Some.ensures.number)
     (c.land-why.ensures.refusal leg backs stands due)
     (subst (λ client. HasPassed own.landing c.land.new.self client (is_some c.land-why.result)) (sym kind)
     c.land.ensures.passed) c.land.ensures.refusals in
