@@ -1,3 +1,4 @@
 pub mod DrawLaws
+pub mod LeapLaws
 pub mod RateFrameLaws
 pub mod RateCountLaws

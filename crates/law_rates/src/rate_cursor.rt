@@ -2,10 +2,10 @@
 ghost use Rattle.std.specs.Prelude.{◌≡◌, ◌<◌, ◌≤◌, ◌+◌, suc, [], ◌∷◌, length, take, IfSome, IfNone};
 ghost use Rattle.law_rates.specs.Limits.{longest_frame};
 ghost use Rattle.law_rates.specs.Rates.{IsRate, count_of, due_of, size_at, frames};
-ghost use Rattle.law_rates.specs.Places.{IsPlace};
+ghost use Rattle.law_rates.specs.Places.{IsPlace, frames_from};
 
 use crate::number_draws::Draws;
-use crate::rate_frames::{LONGEST_FRAME, Rate, fill_frame};
+use crate::rate_frames::{Rate, fill_frame, turn_octets};
 use std::marker::Model;
 
 /// A place in the frames of a rate: before one of them, or behind the last.
@@ -34,6 +34,42 @@ impl RatePlace {
         }
     }
 
+    /// The place before the frame of a number, or behind the last.
+    pub fn at(rate: &Rate, number: u64) -> RatePlace
+        requires rate { IsRate rate.now }
+        requires within { number ≤ count_of rate.now }
+        ensures place { IsPlace rate.now result }
+        ensures number { result.number ≡ number }
+    {
+        let sizes = rate.sizes.as_slice();
+        let turns = number / sizes.len() as u64;
+        let turn = number % sizes.len() as u64;
+        RatePlace {
+            number,
+            turn: turn as u8,
+            octets: turns * turn_octets(sizes) + turn_octets(&sizes[..turn as usize]),
+        }
+    }
+
+    /// The tick at which the next frame is due, where there is one.
+    pub fn tick(&self, rate: &Rate) -> u32
+        requires rate { IsRate rate.now }
+        requires place { IsPlace rate.now self.now }
+        requires more { self.now.number < count_of rate.now }
+        ensures { result ≡ due_of rate.now self.now.number }
+    {
+        self.wide_tick(rate) as u32
+    }
+
+    /// The same of any place: behind the last frame it isn't below the end.
+    fn wide_tick(&self, rate: &Rate) -> u64
+        requires rate { IsRate rate.now }
+        requires place { IsPlace rate.now self.now }
+        ensures { result ≡ due_of rate.now self.now.number }
+    {
+        u64::from(rate.first) + 8 * self.octets / (125 * u64::from(rate.mbits))
+    }
+
     /// The tick at which the next frame is due, or `None` behind the last.
     pub fn due(&self, rate: &Rate) -> Option<u32>
         requires rate { IsRate rate.now }
@@ -42,7 +78,7 @@ impl RatePlace {
         ensures more { IfSome result (λ _. self.now.number < count_of rate.now) }
         ensures none { IfNone result (self.now.number ≡ count_of rate.now) }
     {
-        let due = u64::from(rate.first) + 8 * self.octets / (125 * u64::from(rate.mbits));
+        let due = self.wide_tick(rate);
         if due < u64::from(rate.end) {
             Some(due as u32)
         } else {
@@ -108,6 +144,22 @@ impl RateCursor {
             rate: *rate,
             place: RatePlace::first(rate),
             draws: Draws::new(rate.number),
+        }
+    }
+
+    /// The frames of a rate from a number on.
+    pub fn at(rate: &Rate, number: u64) -> RateCursor
+        requires rate { IsRate rate.now }
+        requires within { number ≤ count_of rate.now }
+        ensures { result ≡ frames_from rate.now number }
+    {
+        let place = RatePlace::at(rate, number);
+        let mut draws = Draws::new(rate.number);
+        draws.skip(place.octets - 18 * number);
+        RateCursor {
+            rate: *rate,
+            place,
+            draws,
         }
     }
 

@@ -32,8 +32,8 @@ const HEAD: [u8; 14] = [
     0x02, 0x00, 0x00, 0x00, 0x00, 0x02, 0x02, 0x00, 0x00, 0x00, 0x00, 0x01, 0x88, 0xb5,
 ];
 
-/// The octets of a turn.
-fn turn_octets(sizes: &[u16]) -> u64
+/// The octets of frames of each of these sizes.
+pub(crate) fn turn_octets(sizes: &[u16]) -> u64
     requires { length sizes.now ≤ most_sizes }
     ensures { result ≡ octets_before sizes.now (length sizes.now) }
 {
