@@ -1,16 +1,17 @@
 -- Single items with streams among them: how many there are, one more, and the item of a number.
 use Rattle.std.proofs.Common.{◌≡◌, ℕ, zero, suc, ◌+◌, ◌-◌, ◌<◌, ◌≤◌, List, [], ◌∷◌, ◌++◌, map, take, drop, length}
-use Rattle.std.proofs.Common.{Option, Some, None, slice_get, slice_index_or, nat_lt, true, false, refl, sym, ◌∙◌, ap, ap₂}
+use Rattle.std.proofs.Common.{Option, Some, None, option_map, slice_get, slice_index_or, nat_lt, true, false, refl, sym, ◌∙◌, ap, ap₂}
 use Rattle.std.proofs.Common.{arith, inl, inr, append-nil, append_assoc, length-append, length-take-le, length-drop}
 use Rattle.std.proofs.lemmas.Bool.{cases_lt, lt-ltb, le-ltb}
 use Rattle.std.proofs.lemmas.List.{take-append-le, drop-append-le, take_all, drop_all, length-map, map-append, take-map, drop-map}
-use Rattle.std.proofs.lemmas.Option.{slice_get_within}
-use Rattle.law_rates.specs.Rates.{RateFrame, IsRate, count_of, frames}
+use Rattle.std.proofs.lemmas.Option.{slice_get_within, slice_get-map}
+use Rattle.law_rates.specs.Rates.{RateFrame, IsRate, count_of, frame_at, frames}
 use Rattle.law_rates.proofs.RateCountLaws.{length-frames}
+use Rattle.law_rates.specs.declared.rate_frames.Rate.{Rate}
 use Rattle.law_model.specs.declared.script_items.streams.Stream.{Stream}
 use Rattle.law_model.specs.session.Streams.{mixed_from, behind_of, streamed_in, IsStream, AreStreams, FitStreams}
 use Rattle.law_model.specs.session.Streams.{stream_at, streamed_before, IsFirstAbove}
-use Rattle.law_model.proofs.ListLaws.{slice_get-append, slice_get-after, slice_get-drop, drop-next, at-index}
+use Rattle.law_model.proofs.ListLaws.{slice_get-append, slice_get-after, slice_get-drop, slice_get-inside, at-index, at-range}
 
 -- ---- the numbers of streams
 pub behind_least : (streams : List Stream) (from before : ℕ) → AreStreams from before streams →
@@ -414,3 +415,62 @@ passed_some streams number p are low within passed =
       | inl inside ↦ inside
       | inr all ↦ absurd (let past = ends_last streams 0 number (λ k d under. passed k d (omega (arith, under, all))) (omega arith) in omega (arith, past, low))
     ]
+
+-- ---- the item of a number, by where it stands
+pub single_here : {A : Type 0} (item_of : RateFrame → A) (streams : List Stream) (singles : List A) (number index : ℕ) →
+    AreStreams 0 0 streams → FitStreams 0 (length singles) streams → stream_at streams number ≡ None →
+    index + streamed_before streams number ≡ number →
+    slice_get (mixed_from item_of 0 singles streams) number ≡ slice_get singles index
+single_here {A = A} item_of streams singles number index are fit none is =
+    ap (slice_get (mixed_from item_of 0 singles streams)) (let e : number ≡ number - 0 = omega arith in e)
+    ∙ get_single item_of streams 0 0 singles number are fit none (omega arith)
+    ∙ ap (slice_get singles) (let e : number - 0 - streamed_before streams number ≡ index = omega (arith, is) in e)
+
+-- it is there, since the item of the number is
+pub single_inside : {A : Type 0} (item_of : RateFrame → A) (streams : List Stream) (singles : List A) (number index : ℕ) →
+    AreStreams 0 0 streams → FitStreams 0 (length singles) streams → stream_at streams number ≡ None →
+    index + streamed_before streams number ≡ number → number < length (mixed_from item_of 0 singles streams) →
+    index < length singles
+single_inside item_of streams singles number index are fit none is within =
+    let (item, there) = slice_get-inside (mixed_from item_of 0 singles streams) number within in
+    slice_get_within singles index item (sym (single_here item_of streams singles number index are fit none is) ∙ there)
+
+-- the frame of a rate
+frame_there : (rate : Rate) (k : ℕ) → k < count_of rate → slice_get (frames rate) k ≡ Some (frame_at rate k)
+unfolding frames
+frame_there rate k within = at-range (frame_at rate) (count_of rate) k within
+
+pub streamed_here : {A : Type 0} (item_of : RateFrame → A) (streams : List Stream) (singles : List A) (number : ℕ)
+    (s : Stream) → AreStreams 0 0 streams → FitStreams 0 (length singles) streams →
+    stream_at streams number ≡ Some s →
+    slice_get (mixed_from item_of 0 singles streams) number ≡ Some (item_of (frame_at s.rate (number - s.first)))
+streamed_here {A = A} item_of streams singles number s are fit is =
+    let (first, behind, ends, _) = stream_facts streams 0 0 number s are is in
+    ap (slice_get (mixed_from item_of 0 singles streams)) (let e : number ≡ number - 0 = omega arith in e)
+    ∙ get_streamed item_of streams 0 0 singles number s are fit is (omega arith)
+    ∙ slice_get-map item_of (frames s.rate) (number - s.first)
+    ∙ ap (option_map item_of) (frame_there s.rate (number - s.first) (omega (arith, first, behind, ends)))
+
+-- so that it is the only one that the list has there
+pub single_is : {A : Type 0} (item_of : RateFrame → A) (streams : List Stream) (singles all : List A)
+    (number index : ℕ) (x item : A) → AreStreams 0 0 streams → FitStreams 0 (length singles) streams →
+    stream_at streams number ≡ None → index + streamed_before streams number ≡ number →
+    mixed_from item_of 0 singles streams ≡ all → number < length all → x ≡ slice_index_or singles index x →
+    slice_get all number ≡ Some item → x ≡ item
+single_is {A = A} item_of streams singles all number index x item are fit none is same within read there =
+    let long = ap length same in
+    let inside = single_inside item_of streams singles number index are fit none is (omega (arith, long, within)) in
+    let here : Some x ≡ Some item =
+    sym (at-index singles index x inside read) ∙ sym (single_here item_of streams singles number index are fit none is)
+    ∙ ap (λ (l : List A). slice_get l number) same ∙ there in
+    cc
+
+pub streamed_is : {A : Type 0} (item_of : RateFrame → A) (streams : List Stream) (singles all : List A) (number : ℕ)
+    (s : Stream) (item : A) → AreStreams 0 0 streams → FitStreams 0 (length singles) streams →
+    stream_at streams number ≡ Some s → mixed_from item_of 0 singles streams ≡ all → slice_get all number ≡ Some item →
+    item_of (frame_at s.rate (number - s.first)) ≡ item
+streamed_is {A = A} item_of streams singles all number s item are fit is same there =
+    let here : Some (item_of (frame_at s.rate (number - s.first))) ≡ Some item =
+    sym (streamed_here item_of streams singles number s are fit is)
+    ∙ ap (λ (l : List A). slice_get l number) same ∙ there in
+    cc

@@ -1,12 +1,14 @@
 -- The items of a script: what a line of traffic stands for, and an item as it is given out. The limits are this
 -- project's own.
-use Rattle.std.specs.Prelude.{ℕ, ◌≤◌, List, length, map}
+use Rattle.std.specs.Prelude.{ℕ, ◌+◌, ◌≤◌, List, length, map, All}
 use Rattle.law_rates.specs.Rates.{RateFrame, frames}
 use Rattle.law_rates.specs.declared.rate_frames.Rate.{Rate}
 use Rattle.law_model.specs.Limits.{most_items, longest_offer}
 use Rattle.law_model.specs.declared.script_types.Item.{Item}
 use Rattle.law_model.specs.declared.script_types.ItemKind.{ItemKind}
 use Rattle.law_model.specs.declared.script_types.ItemKind.TheVariants.{Frame, Add, Remove}
+use Rattle.law_model.specs.declared.script_items.streams.Stream.{Stream}
+use Rattle.law_model.specs.session.Streams.{AreStreams, FitStreams, streamed_in}
 use Rattle.law_model.specs.declared.script_items.item_list.ItemHead.{ItemHead}
 use Rattle.law_model.specs.declared.script_items.item_list.ItemSort.{ItemSort}
 use Rattle.law_model.specs.declared.script_items.item_list.ItemSort.TheVariants.{Frame as frame_sort, Add as add_sort, Remove as remove_sort}
@@ -40,9 +42,13 @@ abbrev pub lent_kind : Lent → List ℕ → ItemKind
 lent_kind (Kept kind) octets = kind.now
 lent_kind Drawn octets = Frame octets
 
--- ---- what a list of items meets
-abbrev pub IsFew : List Item → Type 0
-IsFew items = length items ≤ most_items
-
+-- ---- an item whose length is within 16 bits
 abbrev pub IsShort : Item → Type 0
 IsShort item = octets_in_kind item.kind ≤ longest_offer
+
+-- ---- the single items of a list and the streams among them
+pub record AreParts (singles : List Item) (streams : List Stream) : Type 0 where
+  pub apart : AreStreams 0 0 streams
+  pub fit : FitStreams 0 (length singles) streams
+  pub few : length singles + streamed_in streams ≤ most_items
+  pub short : All IsShort singles

@@ -1,14 +1,15 @@
 //! The items of a script. What a line of traffic stands for is drawn when it is asked for.
 ghost use Rattle.std.specs.Prelude.{◌≡◌, ◌<◌, ◌≤◌, ◌+◌, [], ◌∷◌, ◌++◌, length, slice_get, Some, OnOk, IfOk};
-ghost use Rattle.law_rates.specs.Rates.{IsRate, count_of};
+ghost use Rattle.law_rates.specs.Rates.{IsRate, count_of, frame_at};
 ghost use Rattle.law_model.specs.Limits.{most_items, longest_offer};
 ghost use Rattle.law_model.specs.declared.script_types.Item.{Item};
-ghost use Rattle.law_model.specs.session.Streams.{FitStreams, mixed};
-ghost use Rattle.law_model.specs.session.Items.{stream_item, stream_items, head_of, lent_kind, octets_in_kind};
+ghost use Rattle.law_model.specs.session.Streams.{AreStreams, FitStreams, mixed};
+ghost use Rattle.law_model.specs.session.Items.{IsShort, stream_item, stream_items, head_of, lent_kind};
+ghost use Rattle.law_model.specs.session.Items.{octets_in_kind};
 
-use crate::script_items::streams::Streams;
+use crate::script_items::streams::{Place, Streams};
 use crate::script_types::{Item, ItemKind};
-use law_rates::Rate;
+use law_rates::{LONGEST_FRAME, Rate, RateCursor, RatePlace};
 use std::alloc::{AllocError, Global};
 use std::marker::Model;
 
@@ -45,14 +46,20 @@ pub enum Lent<'a> {
 #[derive(Drop)]
 pub struct FrameRoom {
     octets: Vec<u8>,
+    /// How many of them are the frame's.
+    size: usize,
 }
 
 impl Model for FrameRoom {
-    ghost use Rattle.std.specs.Prelude.{ℕ, List};
+    ghost use Rattle.std.specs.Prelude.{◌≤◌, ℕ, List, length, take};
+    ghost use Rattle.law_model.specs.Limits.{longest_frame};
 
     ghost Value = { List ℕ };
 
-    ghost view = { λ room. room.octets.items };
+    ghost view = { λ room. take room.size room.octets.items };
+
+    ghost invariant = { λ room. (room.size ≤ longest_frame)
+        × (longest_frame ≤ length room.octets.items) };
 }
 
 impl FrameRoom {
@@ -61,7 +68,8 @@ impl FrameRoom {
         ensures { IfOk result (λ room. room ≡ []) }
     {
         Ok(FrameRoom {
-            octets: Vec::new(alloc),
+            octets: vec![in alloc; 0u8; LONGEST_FRAME]?,
+            size: 0,
         })
     }
 
@@ -69,27 +77,40 @@ impl FrameRoom {
     pub fn octets(&self) -> &[u8]
         ensures { result.now ≡ self.now }
     {
-        &self.octets
+        &self.octets[..self.size]
+    }
+
+    /// Draws a frame of a rate.
+    fn draw(&mut self, rate: &Rate, number: u64)
+        requires rate { IsRate rate.now }
+        requires there { number < count_of rate.now }
+        ensures { self.new ≡ (frame_at rate.now number).octets }
+    {
+        let mut frames = RateCursor::at(rate, number);
+        if let Some((_, size)) = frames.next(&mut self.octets) {
+            self.size = size;
+        }
     }
 }
 
-/// The items of a script.
+/// The items of a script: those that are kept whole, and the streams among them.
 #[derive(Drop)]
 pub struct ItemList {
-    items: Vec<Item>,
+    singles: Vec<Item>,
     streams: Streams,
 }
 
 impl Model for ItemList {
-    ghost use Rattle.std.specs.Prelude.{◌≡◌, ◌≤◌, List, [], length, All};
+    ghost use Rattle.std.specs.Prelude.{List};
     ghost use Rattle.law_model.specs.declared.script_types.Item.{Item};
-    ghost use Rattle.law_model.specs.session.Items.{IsFew, IsShort};
+    ghost use Rattle.law_model.specs.session.Streams.{mixed};
+    ghost use Rattle.law_model.specs.session.Items.{AreParts, stream_item};
 
     ghost Value = { List Item };
 
-    ghost view = { λ items. items.items.items };
+    ghost view = { λ items. mixed stream_item items.singles.items items.streams };
 
-    ghost invariant = { λ items. IsFew items.items.items × All IsShort items.items.items × (items.streams ≡ []) };
+    ghost invariant = { λ items. AreParts items.singles.items items.streams };
 }
 
 impl ItemList {
@@ -98,7 +119,7 @@ impl ItemList {
         ensures { result ≡ [] }
     {
         ItemList {
-            items: Vec::new(alloc),
+            singles: Vec::new(alloc),
             streams: Streams::new(alloc),
         }
     }
@@ -109,7 +130,7 @@ impl ItemList {
         requires short { octets_in_kind item.kind ≤ longest_offer }
         ensures { OnOk result (self.new ≡ self.old ++ item ∷ []) }
     {
-        self.items.push(item)?;
+        self.singles.push(item)?;
         Ok(())
     }
 
@@ -119,8 +140,9 @@ impl ItemList {
         requires few { length self.old + count_of rate.now ≤ most_items }
         ensures { OnOk result (self.new ≡ self.old ++ stream_items rate.now) }
     {
-        let _ = rate;
-        Err(AllocError)
+        let first = self.singles.len() as u32 + self.streams.streamed();
+        self.streams.push(rate, first)?;
+        Ok(())
     }
 
     /// How many there are.
@@ -128,15 +150,16 @@ impl ItemList {
         ensures count { result ≡ length self.now }
         ensures few { result ≤ most_items }
     {
-        self.items.len() as u32
+        self.singles.len() as u32 + self.streams.streamed()
     }
 
     /// The single items, and the streams among them.
     pub fn parts(&self) -> (&[Item], &Streams)
         ensures items { self.now ≡ mixed stream_item result.0.now result.1.now }
+        ensures apart { AreStreams 0 0 result.1.now }
         ensures fit { FitStreams 0 (length result.0.now) result.1.now }
     {
-        (&self.items, &self.streams)
+        (&self.singles, &self.streams)
     }
 
     /// An item without octets.
@@ -144,15 +167,11 @@ impl ItemList {
         requires { number < length self.now }
         ensures { (item : Item) → slice_get self.now number ≡ Some item → result ≡ head_of item }
     {
-        let item = &self.items[number as usize];
-        let sort = match &item.kind {
-            ItemKind::Frame(octets) => ItemSort::Frame(octets.0.len() as u16),
-            ItemKind::Add(line) => ItemSort::Add(*line),
-            ItemKind::Remove(line) => ItemSort::Remove(*line),
-        };
-        ItemHead {
-            due: item.due,
-            sort,
+        match self.streams.place(number) {
+            Place::Single(index) => single_head(&self.singles[index as usize]),
+            Place::Streamed(stream) => {
+                frame_head(&stream.rate, u64::from(number - stream.first))
+            }
         }
     }
 
@@ -162,7 +181,41 @@ impl ItemList {
         ensures { (item : Item) → slice_get self.now number ≡ Some item →
             lent_kind result room.new ≡ item.kind }
     {
-        let _ = room;
-        Lent::Kept(&self.items[number as usize].kind)
+        match self.streams.place(number) {
+            Place::Single(index) => Lent::Kept(&self.singles[index as usize].kind),
+            Place::Streamed(stream) => {
+                room.draw(&stream.rate, u64::from(number - stream.first));
+                Lent::Drawn
+            }
+        }
+    }
+}
+
+/// A single item without octets.
+fn single_head(item: &Item) -> ItemHead
+    requires { IsShort item.now }
+    ensures { result ≡ head_of item.now }
+{
+    let sort = match &item.kind {
+        ItemKind::Frame(octets) => ItemSort::Frame(octets.0.len() as u16),
+        ItemKind::Add(line) => ItemSort::Add(*line),
+        ItemKind::Remove(line) => ItemSort::Remove(*line),
+    };
+    ItemHead {
+        due: item.due,
+        sort,
+    }
+}
+
+/// A frame of a rate as an item without octets.
+fn frame_head(rate: &Rate, number: u64) -> ItemHead
+    requires rate { IsRate rate.now }
+    requires there { number < count_of rate.now }
+    ensures { result ≡ head_of (stream_item (frame_at rate.now number)) }
+{
+    let place = RatePlace::at(rate, number);
+    ItemHead {
+        due: place.tick(rate),
+        sort: ItemSort::Frame(place.size(rate)),
     }
 }

@@ -1,5 +1,5 @@
 //! Streams among single items: a stream is items in a row that nobody keeps, each a frame of a rate.
-ghost use Rattle.std.specs.Prelude.{◌≡◌, ◌<◌, ◌≤◌, ◌+◌, [], ◌∷◌, ◌++◌, OnOk, IfOk};
+ghost use Rattle.std.specs.Prelude.{◌≡◌, ◌<◌, ◌≤◌, ◌+◌, [], ◌∷◌, ◌++◌, OnOk, OnErr, IfOk};
 ghost use Rattle.law_rates.specs.Rates.{IsRate, count_of};
 ghost use Rattle.law_model.specs.Limits.{most_items};
 ghost use Rattle.law_model.specs.session.Streams.{AreStreams, IsFirstAbove, IsPlace, behind_of, streamed_in};
@@ -73,12 +73,13 @@ impl Streams {
         requires rate { IsRate rate.now }
         requires later { behind_of 0 self.old ≤ first }
         requires few { first + count_of rate.now ≤ most_items }
-        ensures { OnOk result (self.new ≡ self.old ++ record {
+        ensures added { OnOk result (self.new ≡ self.old ++ record {
           rate = rate.now;
           first = first;
           behind = first + count_of rate.now;
           before = streamed_in self.old;
         } ∷ []) }
+        ensures kept { OnErr result (self.new ≡ self.old) }
     {
         let items = count(rate) as u32;
         let behind = first + items;
