@@ -10,11 +10,10 @@ use Rattle.law_model.specs.declared.script_types.ItemKind.{ItemKind}
 use Rattle.law_model.specs.declared.script_types.ItemKind.TheVariants.{Frame, Add, Remove}
 use Rattle.terminal_group.specs.ItemPlaces.{is_frame, is_command, place_of, due_by, least_held}
 use Rattle.std.specs.List.Sorted.{IsNonDecreasing}
-use Rattle.std.proofs.lemmas.List.{drop_all, map-append}
-use Rattle.law_model.specs.declared.script_items.item_list.ItemHead.{ItemHead}
-use Rattle.law_model.specs.session.Items.{sort_of, head_of}
-use Rattle.law_model.proofs.ListLaws.{drop-next, rest-in_order, slice_get-inside, take-one}
-use Rattle.terminal_group.specs.Item.{bare, bare_kind, bare_sort, bare_of, bare_items}
+use Rattle.std.proofs.lemmas.List.{drop_all}
+use Rattle.law_model.proofs.ListLaws.{drop-next, rest-in_order, slice_get-inside}
+use Rattle.terminal_group.specs.Item.{bare_kind, bare_items}
+use Rattle.terminal_group.specs.Landed.{due_in, due_at}
 
 -- ---- Where the next item of a kind stands, how many of its kind are before it, and when it is due.
 -- ---- the next place is the first after this one
@@ -169,6 +168,45 @@ pub place-none : (is : ItemKind → Bool) (items : List Item) (i : ℕ) → leng
 unfolding place_of
 place-none is items i past = ap (λ xs. i + place_of is 0 xs) (drop_all i items past)
     ∙ (let f : i + 0 ≡ i = omega arith in f)
+
+-- all items between two numbers are passed where none is of the kind
+pub place-over : (is : ItemKind → Bool) (items : List Item) (i j : ℕ) → i ≤ j → j ≤ length items →
+    ((k : ℕ) (item : Item) → i ≤ k → k < j → slice_get items k ≡ Some item → is item.kind ≡ false) →
+    j + place_of is 0 (drop j items) ≡ i + place_of is 0 (drop i items)
+place-over is items i zero low within none =
+    let e : 0 ≡ i = omega (arith, low) in ap (λ n. n + place_of is 0 (drop n items)) e
+place-over is items i (suc j) low within none =
+    elim (cases_lt j i) [
+      | inl past ↦ (let e : suc j ≡ i = omega (arith, low, past) in ap (λ n. n + place_of is 0 (drop n items)) e)
+      | inr here ↦ (
+          let (item, there) = slice_get-inside items j (omega (arith, within)) in
+          let up : suc j ≡ j + 1 = omega arith in
+          ap (λ n. n + place_of is 0 (drop n items)) up
+          ∙ place-passed is items j item there (none j item here (omega arith) there)
+          ∙ place-over is items i j here (omega (arith, within)) (λ k item first last. none k item first
+          (omega (arith, last))))
+    ]
+
+-- where neither the first is of it nor one behind it
+pub none-between : (is : ItemKind → Bool) (items : List Item) (i j : ℕ) (here : Bool) →
+    ((item : Item) → slice_get items i ≡ Some item → here ≡ is item.kind) → here ≡ false →
+    ((k : ℕ) (item : Item) → i < k → k < j → slice_get items k ≡ Some item → is item.kind ≡ false) →
+    (k : ℕ) (item : Item) → i ≤ k → k < j → slice_get items k ≡ Some item → is item.kind ≡ false
+none-between is items i j here first none rest k item low high there =
+    elim (cases_lt i k) [
+      | inl more ↦ rest k item more high there
+      | inr same ↦ (
+          let e : k ≡ i = omega (arith, low, same) in
+          sym (first item (ap (slice_get items) (sym e) ∙ there)) ∙ none)
+    ]
+
+-- ---- an item that is due
+pub due-told : (items : List Item) (i ticks : ℕ) → i < length items →
+    nat_le (due_at items i) ticks ≡ due_by ticks (slice_get items i)
+due-told items i ticks inside =
+    let (item, there) = slice_get-inside items i inside in
+    ap (λ (found : Option Item). nat_le (due_in found) ticks) there
+    ∙ sym (ap (due_by ticks) there)
 
 -- ---- the least item that is held
 first-least : (due next : ℕ) (dues : List ℕ) → IsNonDecreasing (due ∷ next ∷ dues) → due ≤ next
@@ -451,28 +489,3 @@ pub command-blind : (kind : ItemKind) → is_command (bare_kind kind) ≡ is_com
 command-blind (Frame octets) = refl
 command-blind (Add line) = refl
 command-blind (Remove line) = refl
-
--- ---- The items are copied by their heads, one by one.
-bare-sort : (kind : ItemKind) → bare_sort (sort_of kind) ≡ bare_kind kind
-bare-sort (Frame octets) = refl
-bare-sort (Add line) = refl
-bare-sort (Remove line) = refl
-
-bare-next : (items : List Item) (number : ℕ) (head : ItemHead) → number < length items →
-    ((item : Item) → slice_get items number ≡ Some item → head ≡ head_of item) →
-    bare_items (take number items) ++ bare_of head ∷ [] ≡ bare_items (take (number + 1) items)
-bare-next items number head inside is =
-    let (item, there) = slice_get-inside items number inside in
-    let same : bare_of head ≡ bare item = ap bare_of (is item there)
-    ∙ ap (λ (kind : ItemKind). record { due = item.due; kind = kind }) (bare-sort item.kind) in
-    ap (λ (one : Item). bare_items (take number items) ++ one ∷ []) same
-    ∙ sym (map-append bare (take number items) (item ∷ []))
-    ∙ ap bare_items (sym (take-one items number item there))
-
-pub bare-copied : (items was now : List Item) (number : ℕ) (head : ItemHead) (one : Item) → number < length items →
-    ((item : Item) → slice_get items number ≡ Some item → head ≡ head_of item) → one ≡ bare_of head →
-    was ≡ bare_items (take number items) → now ≡ was ++ one ∷ [] → now ≡ bare_items (take (number + 1) items)
-bare-copied items was now number head one inside is copied before more =
-    more ∙ ap (λ (l : List Item). l ++ one ∷ []) before
-    ∙ ap (λ (item : Item). bare_items (take number items) ++ item ∷ []) copied
-    ∙ bare-next items number head inside is

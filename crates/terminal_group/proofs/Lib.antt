@@ -1,4 +1,6 @@
+pub mod BareListLaws
 pub mod InboxReturnCellLaws
 pub mod ItemPlaceAndHeldItemLaws
 pub mod LandingLegItemLaws
 pub mod RefusalOrderAndNextItemLaws
+pub mod StreamDueLaws

@@ -3,9 +3,6 @@ use Rattle.std.specs.Prelude.{ℕ, List, [], map, length}
 use Rattle.law_model.specs.declared.script_types.Item.{Item}
 use Rattle.law_model.specs.declared.script_types.ItemKind.{ItemKind}
 use Rattle.law_model.specs.declared.script_types.ItemKind.TheVariants.{Frame, Add, Remove}
-use Rattle.law_model.specs.declared.script_items.item_list.ItemHead.{ItemHead}
-use Rattle.law_model.specs.declared.script_items.item_list.ItemSort.{ItemSort}
-use Rattle.law_model.specs.declared.script_items.item_list.ItemSort.TheVariants.{Frame as frame_sort, Add as add_sort, Remove as remove_sort}
 use Rattle.terminal_group.specs.declared.item_ref.ItemRef.{ItemRef}
 use Rattle.terminal_group.specs.declared.item_ref.ItemRef.TheVariants.{Frame as frame_ref, Add as add_ref, Remove as remove_ref}
 
@@ -35,15 +32,6 @@ bare_kind (Remove line) = Remove line
 
 abbrev pub bare : Item → Item
 bare item = record { due = item.due; kind = bare_kind item.kind }
-
--- the same by its head
-abbrev pub bare_sort : ItemSort → ItemKind
-bare_sort (frame_sort octets) = Frame []
-bare_sort (add_sort line) = Add line
-bare_sort (remove_sort line) = Remove line
-
-abbrev pub bare_of : ItemHead → Item
-bare_of head = record { due = head.due; kind = bare_sort head.sort }
 
 abbrev pub bare_items : List Item → List Item
 bare_items items = map bare items

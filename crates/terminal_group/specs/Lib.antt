@@ -1,5 +1,6 @@
 pub mod Item
 pub mod KeptItem
+pub mod BareList
 pub mod ItemPlaces
 pub mod GivenItem
 pub mod Landed

@@ -1,10 +1,10 @@
 //! What is kept of an item of a script until it lands: the octets of a frame stay in the script.
 
 ghost use Rattle.std.specs.Prelude.{◌≡◌};
-ghost use Rattle.terminal_group.specs.Item.{bare_of};
+ghost use Rattle.terminal_group.specs.Item.{bare};
 ghost use Rattle.terminal_group.specs.ItemPlaces.{is_frame, is_command};
 
-use law_model::{ItemHead, ItemSort};
+use law_model::{Item, ItemKind};
 use std::marker::Model;
 
 /// What an item is, without octets.
@@ -37,16 +37,16 @@ impl Model for BareItem {
 
 impl BareItem {
     /// The item without the octets of its frame.
-    pub(crate) fn of(head: ItemHead) -> BareItem
-        ensures { result ≡ bare_of head }
+    pub(crate) fn of(item: &Item) -> BareItem
+        ensures { result ≡ bare item.now }
     {
-        let kind = match head.sort {
-            ItemSort::Frame(_) => BareKind::Frame,
-            ItemSort::Add(line) => BareKind::Add(line),
-            ItemSort::Remove(line) => BareKind::Remove(line),
+        let kind = match item.kind {
+            ItemKind::Frame(_) => BareKind::Frame,
+            ItemKind::Add(line) => BareKind::Add(line),
+            ItemKind::Remove(line) => BareKind::Remove(line),
         };
         BareItem {
-            due: head.due,
+            due: item.due,
             kind,
         }
     }

@@ -9,7 +9,7 @@ ghost use Rattle.law_walk.specs.Common.{IsPlaced, refused_by};
 ghost use Rattle.terminal_group.specs.Landed.{none_landed, next_place, next_number, due_at, landed_of, refused_of};
 ghost use Rattle.terminal_group.specs.Landed.{HasPassed, AreOthers, AreBefore, AreAfter};
 
-use crate::bare_item::BareItem;
+use crate::bare_list::BareList;
 use crate::landing_order::{held_item, next_command, next_frame};
 use law_model::{ItemList, Refusal, Refusals, Script};
 use std::alloc::{AllocError, Global};
@@ -18,10 +18,10 @@ use std::marker::Model;
 /// The items of a script without the octets of its frames, which of them have landed, and which were refused.
 #[derive(Drop)]
 pub struct Landing {
-    items: Vec<BareItem>,
-    /// The places of the next frame and of the next command.
-    frame: usize,
-    command: usize,
+    items: BareList,
+    /// The numbers of the next frame and of the next command.
+    frame: u32,
+    command: u32,
     /// How many frames and commands have landed.
     frames: u32,
     commands: u32,
@@ -38,7 +38,7 @@ impl Model for Landing {
     ghost Value = { Landed };
 
     ghost view = { λ l. record {
-      items = l.items.items;
+      items = l.items;
       frames = l.frames;
       commands = l.commands;
       refused_frames = l.refused_frames;
@@ -47,7 +47,7 @@ impl Model for Landing {
     } };
 
     ghost invariant = { λ l. IsLanded (record {
-      items = l.items.items;
+      items = l.items;
       frames = l.frames;
       commands = l.commands;
       refused_frames = l.refused_frames;
@@ -64,8 +64,8 @@ impl Landing {
         requires commands { IsNonDecreasing (command_dues (dues_of items.now)) }
         ensures { IfOk result (λ landing. landing ≡ none_landed (bare_items items.now)) }
     {
-        let items = bare_copy(alloc, items)?;
-        let refusals = Vec::with_capacity(alloc, items.len())?;
+        let items = BareList::of(alloc, items)?;
+        let refusals = Vec::with_capacity(alloc, items.len() as usize)?;
         let frame = next_frame(&items, 0);
         let command = next_command(&items, 0);
         Ok(Landing {
@@ -94,7 +94,7 @@ impl Landing {
     {
         let place = self.place(client);
         if place < self.items.len() {
-            Some(place as u32)
+            Some(place)
         } else {
             None
         }
@@ -105,7 +105,7 @@ impl Landing {
         requires { next_number self.now client ≡ Some number }
         ensures { result ≡ due_at self.now.items number }
     {
-        self.items[number as usize].due()
+        self.items.due(number)
     }
 
     /// The least item that is due now and hasn't landed.
@@ -186,22 +186,11 @@ impl Landing {
     }
 
     /// The place of the next frame, or of the next command.
-    fn place(&self, client: bool) -> usize
+    fn place(&self, client: bool) -> u32
         ensures { result ≡ next_place self.now client }
     {
         if client { self.frame } else { self.command }
     }
-}
-
-/// The items without the octets of the frames.
-fn bare_copy(alloc: Global, items: &ItemList) -> Result<Vec<BareItem>, AllocError>
-    ensures { IfOk result (λ copy. copy.items ≡ bare_items items.now) }
-{
-    let mut copy = Vec::with_capacity(alloc, items.len() as usize)?;
-    for number in 0..items.len() {
-        copy.push(BareItem::of(items.head(number)))?;
-    }
-    Ok(copy)
 }
 
 /// One, or none.

@@ -6,6 +6,7 @@
 #![tactic(auto)]
 
 mod bare_item;
+mod bare_list;
 mod counted_source;
 mod group_laws;
 mod group_source;
@@ -14,6 +15,7 @@ mod landed_counts;
 mod landed_items;
 mod landing_order;
 mod return_inbox;
+mod stream_dues;
 
 pub use counted_source::CountedSource;
 pub use group_laws::source_law;

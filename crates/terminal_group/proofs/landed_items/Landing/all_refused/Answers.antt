@@ -4,4 +4,4 @@ use Rattle.terminal_group.proofs.RefusalOrderAndNextItemLaws.{all-dues}
 use Rattle.terminal_group.proofs.landed_items.Landing.all_refused.Goals as goal
 
 pub overflow_add-result : goal.overflow_add-result
-overflow_add-result c = omega (arith, all-dues c.self.inside.items.items)
+overflow_add-result c = omega (arith, all-dues c.self.inside.items)

@@ -12,7 +12,7 @@ use Rattle.terminal_group.proofs.landed_items.Landing.land.Goals as goal
 pub overflow_add-self : goal.overflow_add-self
 overflow_add-self c =
     let few = c.self.invariant.few_frames in
-    omega (arith, all-dues c.self.inside.items.items, one-low c.args.client, c.one_if.ensures)
+    omega (arith, all-dues c.self.inside.items, one-low c.args.client, c.one_if.ensures)
 
 pub refuse-requires : goal.refuse-requires
 refuse-requires c =

@@ -16,21 +16,20 @@ invariant_of-result c =
     let copy = c.in_ok-items.items in
     let none = c.in_ok-refusals.refusals in
     let exact = c.in_ok-refusals.ensures.exact in
-    let long = c.len.ensures in
+    let long = c.len.ensures.count in
     let size = ap length c.in_ok-items.ensures ∙ length-map c.args.items.now bare in
     let few = c.requires.few in
-    let dues : dues_of copy.items ≡ dues_of c.args.items.now = ap dues_of c.in_ok-items.ensures
+    let dues : dues_of copy ≡ dues_of c.args.items.now = ap dues_of c.in_ok-items.ensures
     ∙ bare-dues c.args.items.now in
-    let is = none-yet copy.items c.next_frame-frame.result c.next_command-command.result (vec_capacity none)
+    let is = none-yet copy c.next_frame-frame.result c.next_command-command.result (vec_capacity none)
     (omega arith)
     (subst (λ l. IsNonDecreasing (frame_dues l)) (sym dues) c.requires.frames)
     (subst (λ l. IsNonDecreasing (command_dues l)) (sym dues) c.requires.commands)
-    (c.next_frame-frame.ensures ∙ ap (λ items. 0 + place_of is_frame 0 items) c.deref.ensures.value)
-    (c.next_command-command.ensures ∙ ap (λ items. 0 + place_of is_command 0 items) c.deref-2.ensures.value)
+    c.next_frame-frame.ensures c.next_command-command.ensures
     (omega arith) in
     subst (λ (refusals : List (ℕ × Refusal)). IsLanded
     (record {
-      items = copy.items;
+      items = copy;
       frames = 0;
       commands = 0;
       refused_frames = 0;

@@ -7,10 +7,10 @@ use Rattle.terminal_group.proofs.RefusalOrderAndNextItemLaws.{next-later}
 use Rattle.terminal_group.proofs.landed_items.Landing.pass.Goals as goal
 
 pub overflow_add-self : goal.overflow_add-self
-overflow_add-self c = omega (arith, all-dues c.self.inside.items.items)
+overflow_add-self c = omega (arith, all-dues c.self.inside.items)
 
 pub overflow_add-self-else-client : goal.overflow_add-self-else-client
-overflow_add-self-else-client c = omega (arith, all-dues c.self.inside.items.items)
+overflow_add-self-else-client c = omega (arith, all-dues c.self.inside.items)
 
 pub invariant_of-self : goal.invariant_of-self
 invariant_of-self c =
@@ -19,8 +19,7 @@ invariant_of-self c =
     let there = subst (λ (l : Landed). next_place l true < length l.items) (sym c.self.view_is) low in
     let place = c.self.invariant.frame in
     frame-landed _ f.frame f.command _ c.next_frame-self-inside.result c.self.invariant (omega (arith, there, place))
-    (c.next_frame-self-inside.ensures
-    ∙ ap (λ items. (f.frame + 1) + place_of is_frame 0 (drop (f.frame + 1) items)) c.deref.ensures.value)
+    c.next_frame-self-inside.ensures
 
 pub invariant_of-self-else-client : goal.invariant_of-self-else-client
 invariant_of-self-else-client c =
@@ -30,9 +29,7 @@ invariant_of-self-else-client c =
     let place = c.self.invariant.command in
     command-landed _ f.frame f.command _ c.next_command-self-inside.result c.self.invariant
     (omega (arith, there, place))
-    (c.next_command-self-inside.ensures
-    ∙ ap (λ items. (f.command + 1) + place_of is_command 0 (drop (f.command + 1) items))
-    c.deref-else-client.ensures.value)
+    c.next_command-self-inside.ensures
 
 pub returns-then-client-clause-passed : goal.returns-then-client-clause-passed
 returns-then-client-clause-passed c =
