@@ -1,17 +1,15 @@
 -- The limits of scripts and sessions, each by its word. They are this project's own, apart from the sizes of a
--- container. The code has them in `src/limits.rt`.
+-- container. The code has them in `src/limits.rt`. The ticks of a session, the megabits a second of a stream and the
+-- octets of a frame that is accepted, from its destination address to its FCS, are the limits of a rate.
 use Rattle.std.specs.Prelude.{ℕ, ◌+◌, ◌*◌}
+pub use Rattle.law_rates.specs.Limits.{most_mbits, most_ticks, shortest_frame, longest_frame}
 
 -- ---- scripts
 -- the lines of a group
 abbrev pub most_lines : ℕ
 most_lines = 128
 
--- the ticks of a session
-abbrev pub most_ticks : ℕ
-most_ticks = 100000000
-
--- and those of a load that is drawn
+-- the ticks of a load that is drawn
 abbrev pub most_drawn_ticks : ℕ
 most_drawn_ticks = 1000000
 
@@ -61,14 +59,6 @@ abbrev pub most_items : ℕ
 most_items = 268435456
 
 -- ---- frames and commands
-
--- the octets of a frame that is accepted, from its destination address to its FCS
-abbrev pub shortest_frame : ℕ
-shortest_frame = 64
-
-abbrev pub longest_frame : ℕ
-longest_frame = 9600
-
 -- the octets of the longest area of a client frame that has a payload FCS or a linear extension header: a type header
 -- of four octets and four octets more
 abbrev pub longest_extended_area : ℕ

@@ -1,7 +1,8 @@
-//! The definitions that the contracts of a session speak of, and the types that they name; `FrameOut` is what a
-//! session gives its frames to. There is no code here but the nibbles of a packet. Begin with
-//! `specs/session/Scenario.antt`: the other definitions of a session are recursions over a scenario. proofs/ has
-//! lemmas of headers, areas, scrambling, streams, packets and paths that the proofs of other crates use.
+//! The definitions that the contracts of a session speak of, and the types that they name. `ItemList` is the items of a
+//! script, of which a line of traffic is many that nobody keeps: it finds and draws one by its number. `FrameOut` is
+//! what a session gives its frames to. Begin with `specs/session/Scenario.antt`: the other definitions of a session are
+//! recursions over a scenario; for items with `specs/session/Items.antt`. proofs/ has lemmas of headers, areas,
+//! scrambling, streams, packets and paths that the proofs of other crates use.
 #![tactic(auto)]
 
 mod control_packet;

@@ -1,6 +1,7 @@
 //! The frames of a client that sends at a rate, of some sizes in turn, with octets drawn from a number: which there
-//! are, when each is due, and a cursor that draws one after another without memory. What reads such a client and
-//! what sends its frames isn't here. Begin with `Rate`; its frames are the definition `frames` in `specs/Rates.antt`.
+//! are, when each is due, and its octets. A frame is found by its number without those before it (`RatePlace::at`,
+//! `RateCursor::at`), and a cursor draws one after another; neither takes memory. What reads such a client and what
+//! sends its frames isn't here. Begin with `Rate`; its frames are the definition `frames` in `specs/Rates.antt`.
 #![tactic(auto)]
 
 ghost use Rattle.std.specs.Prelude.{◌≡◌, ◌↔◌, ◌<◌, ◌≤◌, ◌+◌, ◌*◌, ℕ, List, [], ◌∷◌, All, map, length, take};
