@@ -1,77 +1,264 @@
--- The places at which rows begin, by the packets that govern them.
+-- The places at which rows begin, by the runs of packets that govern them.
 use Rattle.std.proofs.Common.{◌≡◌, ℕ, zero, suc, ◌+◌, ◌-◌, ◌*◌, ◌/◌, ◌^◌, ◌<◌, ◌≤◌, ◌⊎◌, nat_le, nat_lt, Bool, true}
-use Rattle.std.proofs.Common.{false, List, [], ◌∷◌, ◌++◌, length, map, take, All, Option, Some, slice_get}
+use Rattle.std.proofs.Common.{false, List, [], ◌∷◌, ◌++◌, length, take, drop, set, replicate, All, Option, Some, slice_get}
 use Rattle.std.proofs.Common.{slice_index_or, refl, sym, ◌∙◌, ap, ap₂, subst, arith, inl, inr, length-append, sum_by}
-use Rattle.std.proofs.Common.{mul-le-mul_left, mul-le-mul_right, leb-true, leb-false, le-leb, lt-ltb, le-ltb}
+use Rattle.std.proofs.Common.{mul-le-mul_left, mul-le-mul_right, leb-true, leb-false, le-leb, lt-ltb, le-ltb, append-nil}
+use Rattle.std.proofs.Common.{append_assoc}
 use Rattle.std.specs.List.Sorted.{IsPartitionedBy, IsPartitionPoint}
-use Rattle.std.proofs.lemmas.List.Sums.{sum_by-cons}
-use Rattle.std.proofs.lemmas.List.{length-map, map-append}
+use Rattle.std.proofs.lemmas.List.Sums.{sum_by-append, sum_by-le}
+use Rattle.std.proofs.lemmas.List.Folds.{sum_by-replicate}
+use Rattle.std.proofs.lemmas.List.Concat.{flat_map-append, get_or-flat_map}
+use Rattle.std.proofs.lemmas.List.{length-replicate, get_or-replicate, take-append-drop, take-append-le, set_split}
+use Rattle.std.proofs.lemmas.List.{replicate-append-replicate, drop_all}
+use Rattle.std.proofs.lemmas.Option.{slice_get_within, slice_get-get_or, get_or_from_slice_get}
+use Rattle.std.proofs.Math.Seq.{take-add, take-suc, take-length, take-append_seam}
 use Rattle.std.proofs.lemmas.List.Elements.{All-nil, All-cons, All-append}
 use Rattle.std.proofs.lemmas.Bool.{cases_lt}
-use Rattle.law_model.proofs.ListLaws.{at-index, slice_get-append_seam}
+use Rattle.law_model.proofs.ListLaws.{slice_get-append, slice_get-append_seam}
 use Rattle.law_model.specs.Common.{Scenario, Told, width, place_of, most_lines, most_packets}
-use Rattle.fate_engine.specs.Common.{PacketList, ArePackets, active_in, packets_in, start_by, IsPacketList}
-use Rattle.fate_engine.specs.declared.fate_core.packet_rows.Packet.{Packet}
+use Rattle.fate_engine.specs.Common.{PacketList, ArePackets, ArePacketRuns, IsRun, active_in, lines_of, octets_of, start_by}
+use Rattle.fate_engine.specs.Common.{packets_in, Follows, IsPacketList}
+use Rattle.fate_engine.specs.declared.fate_core.packet_rows.Run.{Run}
 
--- The places at which rows begin, by the packets that govern them.
--- ---- sums of lengths
-pub sum-next : (xs : List (List ℕ)) (k : ℕ) → k < length xs →
-    sum_by length (take (suc k) xs) ≡ sum_by length (take k xs) + length (slice_index_or xs k [])
-sum-next [] k low = absurd (omega arith)
-sum-next (x ∷ xs) zero low =
-    let one : sum_by length (take (suc zero) (x ∷ xs)) ≡ length x + 0 = sum_by-cons length x [] in
-    let none : sum_by length (take zero (x ∷ xs)) ≡ 0 = refl in
-    omega (arith, one, none)
-sum-next (x ∷ xs) (suc k) low =
-    let more : sum_by length (take (suc (suc k)) (x ∷ xs)) ≡ length x + sum_by length (take (suc k) xs) =
-    sum_by-cons length x (take (suc k) xs) in
-    let less : sum_by length (take (suc k) (x ∷ xs)) ≡ length x + sum_by length (take k xs) =
-    sum_by-cons length x (take k xs) in
-    let own : slice_index_or (x ∷ xs) (suc k) [] ≡ slice_index_or xs k [] = refl in
-    omega (arith, sum-next xs k (omega arith), more, less, ap length own)
+-- The places at which rows begin, by the runs of packets that govern them.
+-- ---- the octets of rows
+pub octets-append : (size : ℕ) (xs ys : List (List ℕ)) →
+    octets_of size (xs ++ ys) ≡ octets_of size xs + octets_of size ys
+octets-append size xs ys =
+    ap (λ n. size * n * 16) (sum_by-append length xs ys) ∙ spread (sum_by length xs) (sum_by length ys)
+  where
+    spread : (a b : ℕ) → size * (a + b) * 16 ≡ size * a * 16 + size * b * 16
+    spread a b = omega arith
 
-sum-few : (xs : List (List ℕ)) (k : ℕ) → All (λ (x : List ℕ). length x ≤ most_lines) xs → sum_by length (take k xs) ≤ most_lines * k
-sum-few xs zero few = omega arith
-sum-few [] (suc k) few = omega arith
-sum-few (x ∷ xs) (suc k) few =
-    let all : sum_by length (take (suc k) (x ∷ xs)) ≡ length x + sum_by length (take k xs) =
-    sum_by-cons length x (take k xs) in
-    omega (arith, sum-few xs k (λ i d inside. few (suc i) d (omega arith)), few zero x (omega arith), all)
+pub octets-same : (size n : ℕ) (x : List ℕ) → octets_of size (replicate n x) ≡ 16 * n * (size * length x)
+octets-same size n x = ap (λ k. size * k * 16) (sum_by-replicate length n x) ∙ turned (length x)
+  where
+    turned : (w : ℕ) → size * (n * w) * 16 ≡ 16 * n * (size * w)
+    turned w = omega arith
 
--- ---- where the rows of packets begin
+pub octets-few : (size : ℕ) (xs : List (List ℕ)) → size < 2 ^ 16 → length xs ≤ most_packets →
+    All (λ (x : List ℕ). length x ≤ most_lines) xs → octets_of size xs ≤ 838860800000000
+octets-few size xs small few narrow =
+    let sum : sum_by length xs ≤ 800000000 =
+    (let all = sum_by-le length most_lines xs narrow in omega (arith, all, few)) in
+    omega (arith, mul-le-mul_left size sum, mul-le-mul_right 800000000 (let le : size ≤ 65536 = omega arith in le))
+
 pub start-next : (size : ℕ) (xs : List (List ℕ)) (k : ℕ) → k < length xs →
     start_by size xs (suc k) ≡ start_by size xs k + 16 * (size * length (slice_index_or xs k []))
 start-next size xs k low =
-    let all = sum-next xs k low in
-    let before : ℕ = sum_by length (take k xs) in
-    let own : ℕ = length (slice_index_or xs k []) in
-    ap (λ n. size * n * 16) all ∙ spread before own
-  where
-    spread : (a b : ℕ) → size * (a + b) * 16 ≡ size * a * 16 + 16 * (size * b)
-    spread a b = omega arith
+    ap (octets_of size) (take-suc xs k [] low) ∙ octets-append size (take k xs) (slice_index_or xs k [] ∷ [])
+    ∙ ap (λ n. start_by size xs k + n) (octets-same size 1 (slice_index_or xs k []))
 
-pub start-few : (size : ℕ) (xs : List (List ℕ)) (k : ℕ) → size < 2 ^ 16 → k ≤ most_packets →
-    All (λ (x : List ℕ). length x ≤ most_lines) xs → start_by size xs k ≤ 838860800000000
-start-few size xs k small low few =
-    let sum = sum-few xs k few in
-    omega (arith, mul-le-mul_left size (most sum), mul-le-mul_right 800000000 (size-most))
-  where
-    most : sum_by length (take k xs) ≤ most_lines * k → sum_by length (take k xs) ≤ 800000000
-    most sum = omega (arith, sum)
+-- ---- runs and the packets before them
+module _ (runs : List Run) where
+  abbrev before : ℕ → List (List ℕ)
+  before i = active_in (take i runs)
 
-    size-most : size ≤ 65536
-    size-most = omega arith
+  before-more : (i d : ℕ) → before (i + d) ≡ before i ++ active_in (take d (drop i runs))
+  before-more i d = ap active_in (take-add i d runs) ∙ flat_map-append lines_of (take i runs) (take d (drop i runs))
 
-pub start-rises : (size : ℕ) (xs : List (List ℕ)) (i d : ℕ) → i + d ≤ length xs →
-    start_by size xs i ≤ start_by size xs (i + d)
-start-rises size xs i zero within = ap-le (let e : i ≡ i + 0 = omega arith in ap (start_by size xs) e)
+  whole : (i : ℕ) → active_in runs ≡ before i ++ active_in (drop i runs)
+  whole i = ap active_in (sym (take-append-drop i runs)) ∙ flat_map-append lines_of (take i runs) (drop i runs)
+
+  before-next : (i : ℕ) (run : Run) → slice_get runs i ≡ Some run → before (suc i) ≡ before i ++ lines_of run
+  before-next i run there =
+      let within = slice_get_within runs i run there in
+      ap active_in (take-suc runs i run within) ∙ flat_map-append lines_of (take i runs) (slice_index_or runs i run ∷ [])
+      ∙ ap (λ r. before i ++ (lines_of r ++ [])) (get_or_from_slice_get runs i run run there)
+      ∙ ap (λ l. before i ++ l) (append-nil (lines_of run))
+
+  packets-next : (i : ℕ) (run : Run) → slice_get runs i ≡ Some run →
+      length (before (suc i)) ≡ length (before i) + run.packets
+  packets-next i run there =
+      ap length (before-next i run there) ∙ length-append (before i) (lines_of run)
+      ∙ ap (λ n. length (before i) + n) (length-replicate run.packets run.lines.items)
+
+  octets-next : (size i : ℕ) (run : Run) → slice_get runs i ≡ Some run →
+      octets_of size (before (suc i)) ≡ octets_of size (before i) + 16 * run.packets * (size * length run.lines.items)
+  octets-next size i run there =
+      ap (octets_of size) (before-next i run there) ∙ octets-append size (before i) (lines_of run)
+      ∙ ap (λ n. octets_of size (before i) + n) (octets-same size run.packets run.lines.items)
+
+  packets-rise : (i j : ℕ) → i ≤ j → length (before i) ≤ length (before j)
+  packets-rise i j le =
+      let e : i + (j - i) ≡ j = omega arith in
+      omega (
+        arith,
+        ap length (before-more i (j - i)),
+        length-append (before i) (active_in (take (j - i) (drop i runs))),
+        ap (λ n. length (before n)) e,
+      )
+
+  octets-rise : (size i j : ℕ) → i ≤ j → octets_of size (before i) ≤ octets_of size (before j)
+  octets-rise size i j le =
+      let e : i + (j - i) ≡ j = omega arith in
+      omega (
+        arith,
+        ap (octets_of size) (before-more i (j - i)),
+        octets-append size (before i) (active_in (take (j - i) (drop i runs))),
+        ap (λ n. octets_of size (before n)) e,
+      )
+
+-- a fact of the lines of runs holds of the lines of their packets
+narrow-all : (runs : List Run) →
+    ((i : ℕ) (run : Run) → slice_get runs i ≡ Some run → length run.lines.items ≤ most_lines) →
+    All (λ (x : List ℕ). length x ≤ most_lines) (active_in runs)
+narrow-all [] narrow = All-nil (λ (x : List ℕ). length x ≤ most_lines)
+narrow-all (run ∷ runs) narrow =
+    All-append (λ (x : List ℕ). length x ≤ most_lines) (lines_of run) (active_in runs)
+    (same run.packets (narrow zero run refl)) (narrow-all runs (λ i r there. narrow (suc i) r there))
   where
-    ap-le : {a b : ℕ} → a ≡ b → a ≤ b
-    ap-le same = omega arith
-start-rises size xs i (suc d) within =
-    let same : start_by size xs (suc (i + d)) ≡ start_by size xs (i + suc d) =
-    ap (start_by size xs) (let e : suc (i + d) ≡ i + suc d = omega arith in e) in
-    omega (arith, start-rises size xs i d (omega arith), start-next size xs (i + d) (omega arith), same)
+    same : (n : ℕ) → length run.lines.items ≤ most_lines →
+        All (λ (x : List ℕ). length x ≤ most_lines) (replicate n run.lines.items)
+    same zero low = All-nil (λ (x : List ℕ). length x ≤ most_lines)
+    same (suc n) low = All-cons (λ (x : List ℕ). length x ≤ most_lines) run.lines.items
+        (replicate n run.lines.items) low (same n low)
+
+-- ---- a run of a list
+module _ (size : ℕ) (runs : List Run) (count end : ℕ) (is : IsPacketList size runs count end) where
+  octets-low : octets_of size (active_in runs) ≤ 838860800000000
+  octets-low = octets-few size (active_in runs) is.small (let all = is.all in let few = is.few in omega (arith, all, few))
+      (narrow-all runs (λ i run there. (is.begin.each i run there).narrow))
+
+  pub end-low : end ≤ 838860800000000
+  end-low = let ends = is.ends in omega (arith, octets-low, ends)
+
+  start-before : (i : ℕ) →
+      start_by size (active_in runs) (length (before runs i)) ≡ octets_of size (before runs i)
+  start-before i = ap (octets_of size) (ap (take (length (before runs i))) (whole runs i)
+      ∙ take-append_seam (before runs i) (active_in (drop i runs)))
+
+  pub is-run : (known : List Bool) (i : ℕ) (run : Run) → slice_get runs i ≡ Some run →
+      IsRun (packets_in size runs known) run
+  is-run known i run there =
+      let low = slice_get_within runs i run there in
+      let own : slice_index_or runs i run ≡ run = get_or_from_slice_get runs i run run there in
+      let follows = is.begin.each i run there in
+      record {
+        first = length (before runs i);
+        row = follows.row;
+        start = follows.start ∙ sym (start-before i);
+        within = omega (
+          arith,
+          packets-next runs i run there,
+          ap length (whole runs (suc i)),
+          length-append (before runs (suc i)) (active_in (drop (suc i) runs)),
+        );
+        few = (let all = is.all in let few = is.few in omega (arith, all, few));
+        lines = λ j inside.
+            get_or-flat_map lines_of runs i j run [] low
+            (subst (λ (r : Run). j < length (lines_of r)) (sym own)
+            (let all = length-replicate run.packets run.lines.items in omega (arith, all, inside)))
+            ∙ ap (λ (r : Run). slice_index_or (lines_of r) j []) own
+            ∙ get_or-replicate run.packets j run.lines.items [] inside;
+        narrow = follows.narrow;
+        low =
+            let upto = ap (octets_of size) (whole runs (suc i)) in
+            let parts = octets-append size (before runs (suc i)) (active_in (drop (suc i) runs)) in
+            let start = follows.start in
+            omega (arith, octets-low, upto, parts, octets-next runs size i run there, start);
+      }
+
+-- ---- the run that a search finds
+abbrev pub Begun : List Run → (Run → ℕ) → ℕ → ℕ → Type 0
+Begun runs key x i = IsPartitionPoint (λ (run : Run). nat_le (key run) x ≡ true)
+    (λ (run : Run). nat_le (key run) x ≡ false) runs i
+
+-- the one before is there, begins by x and ends behind it
+pub record Found (runs : List Run) (key span : Run → ℕ) (x i : ℕ) : Type 0 where
+  pub some : 1 ≤ i
+  pub from : (run : Run) → slice_get runs (i - 1) ≡ Some run → key run ≤ x
+  pub below : (run : Run) → slice_get runs (i - 1) ≡ Some run → x < key run + span run
+
+-- each begins where those before it end
+module _ (runs : List Run) (key span : Run → ℕ) (at : ℕ → ℕ)
+    (keys : (i : ℕ) (run : Run) → slice_get runs i ≡ Some run → key run ≡ at i)
+    (next : (i : ℕ) (run : Run) → slice_get runs i ≡ Some run → at (suc i) ≡ at i + span run)
+    (rise : (i j : ℕ) → i ≤ j → at i ≤ at j) (x : ℕ) where
+  key-at : (i : ℕ) (d : Run) → i < length runs → key (slice_index_or runs i d) ≡ at i
+  key-at i d low = keys i (slice_index_or runs i d) (slice_get-get_or runs i d low)
+
+  parted : IsPartitionedBy (λ (run : Run). nat_le (key run) x) runs
+  parted i j d before within ended =
+      let low = leb-true (key (slice_index_or runs j d)) x ended in
+      le-leb (key (slice_index_or runs i d)) x
+      (omega (arith, key-at i d (omega (arith, before, within)), key-at j d within, rise i j before, low))
+
+  at-below : (i : ℕ) → i ≤ length runs → Begun runs key x i → x < at (length runs) → x < at i
+  at-below i within point below =
+      elim (cases_lt i (length runs)) [
+        | inl more ↦ by runs refl more
+        | inr last ↦ (let e : at (length runs) ≡ at i =
+            ap at (let e : length runs ≡ i = omega (arith, last, within) in e) in omega (arith, e, below))
+      ]
+    where
+      by : (xs : List Run) → xs ≡ runs → i < length runs → x < at i
+      by [] same more = absurd (omega (arith, ap length same, more))
+      by (run ∷ xs) same more =
+          let above = leb-false (key (slice_index_or runs i run)) x (point.1 i run (omega arith) more) in
+          omega (arith, key-at i run more, above)
+
+  found : (i : ℕ) → i ≤ length runs → Begun runs key x i → at zero ≤ x → x < at (length runs) →
+      Found runs key span x i
+  found zero within point from below = let low = at-below zero within point below in absurd (omega (arith, low, from))
+  found (suc i) within point from below = record {
+    some = omega arith;
+    from = λ run there.
+        leb-true (key run) x (ap (λ r. nat_le (key r) x) (sym (get_or_from_slice_get runs i run run (own run there)))
+        ∙ point.0 i run (omega arith) (omega (arith, within)));
+    below = λ run there.
+        let low = at-below (suc i) within point below in
+        omega (arith, low, next i run (own run there), keys i run (own run there));
+  }
+    where
+      own : (run : Run) → slice_get runs (suc i - 1) ≡ Some run → slice_get runs i ≡ Some run
+      own run there = ap (slice_get runs) (let e : i ≡ suc i - 1 = omega arith in e) ∙ there
+
+module _ (size : ℕ) (runs : List Run) (count end : ℕ) (is : IsPacketList size runs count end) (x : ℕ) where
+  abbrev row-at : ℕ → ℕ
+  row-at i = 24 + 16 * length (before runs i)
+
+  abbrev start-at : ℕ → ℕ
+  start-at i = octets_of size (before runs i)
+
+  row-next : (i : ℕ) (run : Run) → slice_get runs i ≡ Some run → row-at (suc i) ≡ row-at i + 16 * run.packets
+  row-next i run there = let next = packets-next runs i run there in omega (arith, next)
+
+  row-rise : (i j : ℕ) → i ≤ j → row-at i ≤ row-at j
+  row-rise i j le = let rise = packets-rise runs i j le in omega (arith, rise)
+
+  row-keys : (i : ℕ) (run : Run) → slice_get runs i ≡ Some run → run.row ≡ row-at i
+  row-keys i run there = (is.begin.each i run there).row
+
+  start-keys : (i : ℕ) (run : Run) → slice_get runs i ≡ Some run → run.start ≡ start-at i
+  start-keys i run there = (is.begin.each i run there).start
+
+  abbrev pub rows : Run → ℕ
+  rows run = 16 * run.packets
+
+  abbrev pub octets : Run → ℕ
+  octets run = 16 * run.packets * (size * length run.lines.items)
+
+  pub rows-parted : IsPartitionedBy (λ (run : Run). nat_le run.row x) runs
+  rows-parted = parted runs (λ run. run.row) rows row-at row-keys row-next row-rise x
+
+  pub starts-parted : IsPartitionedBy (λ (run : Run). nat_le run.start x) runs
+  starts-parted = parted runs (λ run. run.start) octets start-at start-keys (octets-next runs size) (octets-rise runs size) x
+
+  all-before : before runs (length runs) ≡ active_in runs
+  all-before = ap active_in (take-length runs)
+
+  pub row-found : (i : ℕ) → i ≤ length runs → Begun runs (λ run. run.row) x i → 24 ≤ x →
+      x < 24 + 16 * length (active_in runs) → Found runs (λ run. run.row) rows x i
+  row-found i within point late governed =
+      found runs (λ run. run.row) rows row-at row-keys row-next row-rise x i within point late
+      (omega (arith, ap length all-before, governed))
+
+  pub start-found : (i : ℕ) → i ≤ length runs → Begun runs (λ run. run.start) x i →
+      x < octets_of size (active_in runs) → Found runs (λ run. run.start) octets x i
+  start-found i within point low =
+      found runs (λ run. run.start) octets start-at start-keys (octets-next runs size) (octets-rise runs size) x i within
+      point (let e : start-at zero ≤ x = omega arith in e) (omega (arith, ap (octets_of size) all-before, low))
 
 -- ---- a session
 module _ (scenario : Scenario) (cells : List (Option Told)) where
@@ -84,30 +271,34 @@ module _ (scenario : Scenario) (cells : List (Option Told)) where
       ap₂ (λ a b. a + scenario.size * b) before none ∙ (let e : 0 + scenario.size * 0 ≡ 0 = omega arith in e)
 
   module _ (packets : PacketList) (are : ArePackets scenario cells packets) where
-    wide : (k q : ℕ) → k < length packets.active → q < 16 →
-        width scenario cells (24 + 16 * k + q) ≡ length (slice_index_or packets.active k [])
-    wide k q low high =
-        let late : nat_lt (24 + 16 * k + q) 24 ≡ false = le-ltb (24 + 16 * k + q) 24 (omega arith) in
-        let same : (24 + 16 * k + q - 24) / 16 ≡ k = omega arith in
-        rw (late, same) (ap length (sym (are.lines k low)))
+    pub wide : (t k : ℕ) → 24 ≤ t → (t - 24) / 16 ≡ k → k < length packets.active →
+        width scenario cells t ≡ length (slice_index_or packets.active k [])
+    wide t k late is low =
+        let behind : nat_lt t 24 ≡ false = le-ltb t 24 late in
+        rw (behind, is) (ap length (sym (are.lines k low)))
 
-    pub place-in : (k q : ℕ) → k < length packets.active → q ≤ 16 →
-        place_of scenario cells (24 + 16 * k + q) ≡ place_of scenario cells (24 + 16 * k) + q *
-        (packets.size * length (slice_index_or packets.active k []))
+    -- rows of packets with the same lines
+    rows-same : (k n : ℕ) (lines : List ℕ) → k + n ≤ length packets.active →
+        ((j : ℕ) → j < n → slice_index_or packets.active (k + j) [] ≡ lines) → (q : ℕ) → q ≤ 16 * n →
+        place_of scenario cells (24 + 16 * k + q) ≡ place_of scenario cells (24 + 16 * k) + q * (packets.size * length lines)
     unfolding place_of
-    place-in k zero low high = ap (place_of scenario cells) (let e : 24 + 16 * k + 0 ≡ 24 + 16 * k = omega arith in e)
-        ∙ (let e : place_of scenario cells (24 + 16 * k) ≡ place_of scenario cells (24 + 16 * k) + 0 *
-        (packets.size * length (slice_index_or packets.active k [])) = omega arith in e)
-    place-in k (suc q) low high =
-        let own : ℕ = packets.size * length (slice_index_or packets.active k []) in
+    rows-same k n lines within same zero low =
+        ap (place_of scenario cells) (let e : 24 + 16 * k + 0 ≡ 24 + 16 * k = omega arith in e)
+        ∙ (let e : place_of scenario cells (24 + 16 * k) ≡ place_of scenario cells (24 + 16 * k)
+        + 0 * (packets.size * length lines) = omega arith in e)
+    rows-same k n lines within same (suc q) low =
+        let own : ℕ = packets.size * length lines in
+        let j : ℕ = q / 16 in
+        let few : q / 16 < n = omega arith in
         let next : place_of scenario cells (24 + 16 * k + suc q) ≡ place_of scenario cells (suc (24 + 16 * k + q)) =
         ap (place_of scenario cells) (let e : 24 + 16 * k + suc q ≡ suc (24 + 16 * k + q) = omega arith in e) in
         let row : scenario.size * width scenario cells (24 + 16 * k + q) ≡ own =
-        ap₂ ◌*◌ (sym are.size) (wide k q low (omega arith)) in
+        ap₂ ◌*◌ (sym are.size) (wide (24 + 16 * k + q) (k + q / 16) (omega arith) (omega arith) (omega arith)
+        ∙ ap length (same (q / 16) few)) in
         let more : suc q * own ≡ q * own + own = omega arith in
         next ∙ (let e : place_of scenario cells (24 + 16 * k + q) + scenario.size * width scenario cells
         (24 + 16 * k + q) ≡ place_of scenario cells (24 + 16 * k) + suc q * own =
-        omega (arith, place-in k q low (omega arith), row, more) in e)
+        omega (arith, rows-same k n lines within same q (omega arith), row, more) in e)
 
     pub place-first : (k : ℕ) → k ≤ length packets.active →
         place_of scenario cells (24 + 16 * k) ≡ start_by packets.size packets.active k
@@ -119,192 +310,60 @@ module _ (scenario : Scenario) (cells : List (Option Told)) where
     place-first (suc k) low =
         ap (place_of scenario cells) (let e : 24 + 16 * suc k ≡ 24 + 16 * k + 16 = omega arith in e)
         ∙ (let e : place_of scenario cells (24 + 16 * k + 16) ≡ start_by packets.size packets.active (suc k) =
+        let rows = rows-same k 1 (slice_index_or packets.active k []) (omega arith)
+        (λ j one. ap (λ i. slice_index_or packets.active i []) (let e : k + j ≡ k = omega arith in e)) 16 (omega arith) in
         let next = start-next packets.size packets.active k (omega arith) in
-        omega (arith, place-first k (omega arith), place-in k 16 (omega arith) (omega arith), next) in e)
+        omega (arith, place-first k (omega arith), rows, next) in e)
 
-    -- a row under packet k
-    pub place-at : (k q : ℕ) → k < length packets.active → q ≤ 16 →
-        place_of scenario cells (24 + 16 * k + q) ≡ start_by packets.size packets.active k + q *
-        (packets.size * length (slice_index_or packets.active k []))
-    place-at k q low high = omega (arith, place-in k q low high, place-first k (omega arith))
+    pub place-last : (row : ℕ) → row ≡ 16 * length packets.active + 24 →
+        place_of scenario cells row ≡ start_by packets.size packets.active (length packets.active)
+    place-last row last =
+        ap (place_of scenario cells) (let e : row ≡ 24 + 16 * length packets.active = omega arith in e)
+        ∙ place-first (length packets.active) (omega arith)
 
--- ---- over the fields
-pub lines-at : (packets : List Packet) (k : ℕ) (packet : Packet) → slice_get packets k ≡ Some packet →
-    slice_index_or (map (λ (p : Packet). p.lines.items) packets) k [] ≡ packet.lines.items
-lines-at [] zero packet there = absurd cc
-lines-at [] (suc k) packet there = absurd cc
-lines-at (own ∷ packets) zero packet there = let same : own ≡ packet = cc in ap (λ (p : Packet). p.lines.items) same
-lines-at (own ∷ packets) (suc k) packet there = lines-at packets k packet there
+    module _ (run : Run) (is : IsRun packets run) where
+      -- the place of a row of the run, or of the one behind them
+      pub place-in : (row : ℕ) → run.row ≤ row → row ≤ run.row + 16 * run.packets →
+          place_of scenario cells row ≡ run.start + (row - run.row) * (packets.size * length run.lines.items)
+      place-in row from upto =
+          let own = is.row in
+          let at : row ≡ 24 + 16 * is.first + (row - run.row) = omega (arith, own) in
+          let all = rows-same is.first run.packets run.lines.items is.within is.lines (row - run.row) (omega arith) in
+          let first = place-first is.first (let low = is.within in omega (arith, low)) in
+          ap (place_of scenario cells) at ∙ (let e : place_of scenario cells (24 + 16 * is.first + (row - run.row))
+          ≡ run.start + (row - run.row) * (packets.size * length run.lines.items) =
+          omega (arith, all, first, is.start) in e)
 
-pub lines-few : (packets : List Packet) → All (λ (p : Packet). length p.lines.items ≤ most_lines) packets →
-    All (λ (x : List ℕ). length x ≤ most_lines) (map (λ (p : Packet). p.lines.items) packets)
-lines-few [] few i d inside = absurd (omega arith)
-lines-few (packet ∷ packets) few zero d inside = few zero packet (omega arith)
-lines-few (packet ∷ packets) few (suc i) d inside =
-    lines-few packets (λ j p within. few (suc j) p (omega arith)) i d (omega arith)
+      pub packet-lines : (k : ℕ) → run.row ≤ 24 + 16 * k → 24 + 16 * k < run.row + 16 * run.packets →
+          slice_index_or packets.active k [] ≡ run.lines.items
+      packet-lines k from below =
+          let own = is.row in
+          ap (λ i. slice_index_or packets.active i []) (let e : k ≡ is.first + (k - is.first) = omega (arith, own) in e)
+          ∙ is.lines (k - is.first) (omega (arith, own))
 
-module _ (size : ℕ) (list : List Packet) (end : ℕ) (is : IsPacketList size list end) where
-  abbrev actives : List (List ℕ)
-  actives = map (λ (p : Packet). p.lines.items) list
+      pub run-width : (row : ℕ) → run.row ≤ row → row < run.row + 16 * run.packets →
+          width scenario cells row ≡ length run.lines.items
+      run-width row from below =
+          let own = is.row in
+          let within = is.within in
+          let j : ℕ = (row - run.row) / 16 in
+          let few : (row - run.row) / 16 < run.packets = omega arith in
+          wide row (is.first + (row - run.row) / 16) (omega (arith, own)) (omega (arith, own)) (omega (arith, within, few))
+          ∙ ap length (is.lines ((row - run.row) / 16) few)
 
-  pub actives-length : length actives ≡ length list
-  actives-length = length-map list (λ (p : Packet). p.lines.items)
+-- ---- the row among those of a run
+pub some-width : (x w n : ℕ) → x < n * w → 0 < w
+some-width x zero n low = absurd (omega arith)
+some-width x (suc w) n low = omega arith
 
-  get-low : {X : Type 0} (xs : List X) (k : ℕ) (x : X) → slice_get xs k ≡ Some x → k < length xs
-  get-low [] zero x there = absurd cc
-  get-low [] (suc k) x there = absurd cc
-  get-low (own ∷ xs) zero x there = omega arith
-  get-low (own ∷ xs) (suc k) x there = let rest = get-low xs k x there in omega (arith, rest)
-
-  pub next-start : (k : ℕ) (packet : Packet) → slice_get list k ≡ Some packet →
-      start_by size actives (suc k) ≡ packet.start + 16 * (size * length packet.lines.items)
-  next-start k packet there =
-      let lines : size * length (slice_index_or actives k []) ≡ size * length packet.lines.items =
-      ap (λ (l : List ℕ). size * length l) (lines-at list k packet there) in
-      let next = start-next size actives k (omega (arith, get-low list k packet there, actives-length)) in
-      omega (arith, is.starts k packet there, next, lines)
-
-  pub start-low : (k : ℕ) → k ≤ length list → start_by size actives k ≤ 838860800000000
-  start-low k low = let few = is.few in
-      start-few size actives k is.small (omega (arith, few, low)) (lines-few list is.lines)
-
-  -- a row under packet k lies low
-  pub row-low : (k q : ℕ) (packet : Packet) → slice_get list k ≡ Some packet → q < 16 →
-      packet.start + q * (size * length packet.lines.items) ≤ 838860800000000
-  row-low k q packet there small =
-      let w : ℕ = size * length packet.lines.items in
-      let rows : q * w ≤ 16 * w = mul-le-mul_right w (let le : q ≤ 16 = omega arith in le) in
-      let next = next-start k packet there in
-      omega (arith, next, start-low (suc k) (omega (arith, get-low list k packet there)), rows)
-
-  module _ (scenario : Scenario) (cells : List (Option Told)) (known : List Bool)
-      (are : ArePackets scenario cells (packets_in size list known)) where
-    pub row-place : (k q : ℕ) (packet : Packet) → slice_get list k ≡ Some packet → q ≤ 16 →
-        place_of scenario cells (24 + 16 * k + q) ≡ packet.start + q * (size * length packet.lines.items)
-    row-place k q packet there small =
-        let low = get-low list k packet there in
-        let row = place-at scenario cells (packets_in size list known) are k q (omega (arith, low, actives-length)) small in
-        let lines : q * (size * length (slice_index_or actives k [])) ≡ q * (size * length packet.lines.items) =
-        ap (λ (l : List ℕ). q * (size * length l)) (lines-at list k packet there) in
-        omega (arith, is.starts k packet there, row, lines)
-
-    pub end-place : (row : ℕ) → row ≡ 24 + 16 * length list → end ≡ place_of scenario cells row
-    end-place row last =
-        is.ends ∙ sym (place-first scenario cells (packets_in size list known) are (length list)
-        (omega (arith, actives-length))) ∙ ap (place_of scenario cells) (sym last)
-
-  -- ---- the packet of a place
-  module _ (place : ℕ) where
-    abbrev pub Begun : ℕ → Type 0
-    Begun i = IsPartitionPoint (λ (p : Packet). nat_le p.start place ≡ true)
-        (λ (p : Packet). nat_le p.start place ≡ false) list i
-
-    start-at : (k : ℕ) (d : Packet) → k < length list → (slice_index_or list k d).start ≡ start_by size actives k
-    start-at k d low = is.starts k (slice_index_or list k d) (at list k d low)
-      where
-        at : (xs : List Packet) (k : ℕ) (d : Packet) → k < length xs → slice_get xs k ≡ Some (slice_index_or xs k d)
-        at [] k d low = absurd (omega arith)
-        at (x ∷ xs) zero d low = refl
-        at (x ∷ xs) (suc k) d low = at xs k d (omega arith)
-
-    pub begun-parted : IsPartitionedBy (λ (p : Packet). nat_le p.start place) list
-    begun-parted i j d before within ended =
-        let one = start-at i d (omega (arith, before, within)) in
-        let other = start-at j d within in
-        let rises = start-rises size actives i (j - i) (omega (arith, before, within, actives-length)) in
-        let same : start_by size actives (i + (j - i)) ≡ start_by size actives j =
-        ap (start_by size actives) (let e : i + (j - i) ≡ j = omega (arith, before) in e) in
-        let low = leb-true (slice_index_or list j d).start place ended in
-        le-leb (slice_index_or list i d).start place (omega (arith, one, other, rises, same, low))
-
-    pub begun-some : (i : ℕ) → Begun i → place < end → 1 ≤ i
-    begun-some zero point low = absurd (none list refl)
-      where
-        none : (xs : List Packet) → xs ≡ list → ⊥
-        none [] same =
-            let empty : start_by size actives (length list) ≡ 0 =
-            ap (λ xs. start_by size (map (λ (p : Packet). p.lines.items) xs) (length xs)) (sym same) ∙ zeros in
-            omega (arith, is.ends, empty, low)
-          where
-            zeros : size * 0 * 16 ≡ 0
-            zeros = omega arith
-        none (x ∷ xs) same =
-            let some : 0 < length list = omega (arith, ap length same) in
-            let zeros : start_by size actives 0 ≡ 0 = omega arith in
-            let above = leb-false (slice_index_or list 0 x).start place (point.1 0 x (omega arith) some) in
-            omega (arith, start-at 0 x some, above, zeros)
-    begun-some (suc i) point low = omega arith
-
-    pub begun-low : (i : ℕ) → 1 ≤ i → i ≤ length list → Begun i → start_by size actives (i - 1) ≤ place
-    begun-low i some within point = by list refl
-      where
-        by : (xs : List Packet) → xs ≡ list → start_by size actives (i - 1) ≤ place
-        by [] same = absurd (omega (arith, ap length same, some, within))
-        by (x ∷ xs) same =
-            let low = leb-true (slice_index_or list (i - 1) x).start place
-            (point.0 (i - 1) x (omega arith) (omega (arith, some))) in
-            omega (arith, start-at (i - 1) x (omega (arith, some, within)), low)
-
-    pub begun-high : (i : ℕ) → 1 ≤ i → i ≤ length list → Begun i → place < end →
-        place < start_by size actives (suc (i - 1))
-    begun-high i some within point low =
-        let same : start_by size actives (suc (i - 1)) ≡ start_by size actives i =
-        ap (start_by size actives) (let e : suc (i - 1) ≡ i = omega (arith, some) in e) in
-        elim (cases_lt i (length list)) [
-          | inl more ↦ (let above = beyond list refl more in omega (arith, same, above))
-          | inr last ↦ (
-              let e : start_by size actives (length list) ≡ start_by size actives i =
-              ap (start_by size actives) (let e : length list ≡ i = omega (arith, last, within) in e) in
-              omega (arith, same, is.ends, e, low))
-        ]
-      where
-        beyond : (xs : List Packet) → xs ≡ list → i < length list → place < start_by size actives i
-        beyond [] none more = absurd (omega (arith, ap length none, more))
-        beyond (x ∷ xs) some more =
-            let above = leb-false (slice_index_or list i x).start place (point.1 i x (omega arith) more) in
-            omega (arith, start-at i x more, above)
-
--- a packet in whose rows a place lies, each of this many octets
-pub record Found (list : List Packet) (k : ℕ) (packet : Packet) (w place : ℕ) : Type 0 where
-  pub there : slice_get list k ≡ Some packet
-  pub from : packet.start ≤ place
-  pub below : place - packet.start < 16 * w
-
-pub found : (size : ℕ) (list : List Packet) (end : ℕ) → IsPacketList size list end → (known : List Bool)
-    (packets : PacketList) → packets_in size list known ≡ packets →
-    (k : ℕ) (packet : Packet) (w place : ℕ) → k < length packets.active → packet ≡ slice_index_or list k packet →
-    w ≡ packets.size * length packet.lines.items →
-    start_by packets.size packets.active k ≤ place → place < start_by packets.size packets.active (suc k) →
-    Found list k packet w place
-found size list end is known packets view k packet w place within is-at wide from below =
-    let few = ap (λ (p : PacketList). length p.active) view in
-    let there : slice_get list k ≡ Some packet =
-    at-index list k packet (let all = actives-length size list end is in omega (arith, all, few, within)) is-at in
-    let start = is.starts k packet there in
-    let own : w ≡ size * length packet.lines.items = wide
-    ∙ ap (λ (p : PacketList). p.size * length packet.lines.items) (sym view) in
-    let low = subst (λ (p : PacketList). start_by p.size p.active k ≤ place) (sym view) from in
-    let high = subst (λ (p : PacketList). place < start_by p.size p.active (suc k)) (sym view) below in
-    let next = next-start size list end is k packet there in
-    record { there = there; from = omega (arith, start, low); below = omega (arith, start, low, high, next, own) }
-
--- ---- the row among those of a packet
-pub some-width : (x w : ℕ) → x < 16 * w → 0 < w
-some-width x w low = omega arith
-
-pub few-rows : (x w : ℕ) → x < 16 * w → x / w < 16
-few-rows x w low =
-    elim (cases_lt (x / w) 16) [
+pub few-rows : (x w n : ℕ) → x < n * w → x / w < n
+few-rows x w n low =
+    elim (cases_lt (x / w) n) [
       | inl few ↦ few
-      | inr many ↦ absurd (let much = mul-le-mul_left w many in omega (arith, much, some-width x w low, low))
+      | inr many ↦ absurd (let much = mul-le-mul_left w many in omega (arith, much, some-width x w n low, low))
     ]
 
 -- ---- one more packet
-take-front : {X : Type 0} (xs : List X) (x : X) (k : ℕ) → k ≤ length xs → take k (xs ++ x ∷ []) ≡ take k xs
-take-front xs x zero low = refl
-take-front [] x (suc k) low = absurd (omega arith)
-take-front (own ∷ xs) x (suc k) low = ap (λ l. own ∷ l) (take-front xs x k (omega arith))
-
 front-or-last : {X : Type 0} (xs : List X) (x : X) (k : ℕ) (y : X) → slice_get (xs ++ x ∷ []) k ≡ Some y →
     ((slice_get xs k ≡ Some y) × (k < length xs)) ⊎ ((y ≡ x) × (k ≡ length xs))
 front-or-last [] x zero y there = inr (cc, refl)
@@ -317,47 +376,77 @@ front-or-last (own ∷ xs) x (suc k) y there =
       | inr last ↦ inr (last.0, (let at = last.1 in omega (arith, at)))
     ]
 
-start-front : (size : ℕ) (list : List Packet) (packet : Packet) (k : ℕ) → k ≤ length list →
-    start_by size (active_in (list ++ packet ∷ [])) k ≡ start_by size (active_in list) k
-start-front size list packet k low =
-    ap (λ xs. size * sum_by length (take k xs) * 16) (map-append (λ (p : Packet). p.lines.items) list (packet ∷ []))
-    ∙ ap (λ xs. size * sum_by length xs * 16)
-    (take-front (active_in list) packet.lines.items k
-    (let e = length-map list (λ (p : Packet). p.lines.items) in omega (arith, e, low)))
+-- a run behind others
+pub with-run : (size : ℕ) (front : List Run) (run : Run) → ArePacketRuns size front → Follows size front run →
+    ArePacketRuns size (front ++ run ∷ [])
+with-run size front run are follows = record {
+  each = λ i r there. elim (front-or-last front run i r there) [
+    | inl before ↦ subst (λ l. Follows size l r)
+        (sym (take-append-le i front (run ∷ []) (let low = before.1 in omega (arith, low)))) (are.each i r before.0)
+    | inr last ↦ subst (λ l. Follows size l r)
+        (sym (ap (λ n. take n (front ++ run ∷ [])) last.1 ∙ take-append_seam front (run ∷ [])))
+        (subst (Follows size front) (sym last.0) follows)
+  ];
+}
 
-pub pushed : (size : ℕ) (list : List Packet) (end : ℕ) (packet : Packet) (next : ℕ) → IsPacketList size list end →
-    length list < most_packets → length packet.lines.items ≤ most_lines →
-    packet.start ≡ end → next ≡ end + size * length packet.lines.items * 16 →
-    IsPacketList size (list ++ packet ∷ []) next
-pushed size list end packet next is few own start ends = record {
+without-run : (size : ℕ) (front : List Run) (run : Run) → ArePacketRuns size (front ++ run ∷ []) →
+    ArePacketRuns size front × Follows size front run
+without-run size front run are = (
+  record {
+    each = λ i r there. subst (λ l. Follows size l r)
+        (take-append-le i front (run ∷ []) (let low = slice_get_within front i r there in omega (arith, low)))
+        (are.each i r (slice_get-append front (run ∷ []) i (slice_get_within front i r there) ∙ there));
+  },
+  subst (λ l. Follows size l run) (take-append_seam front (run ∷ []))
+      (are.each (length front) run (slice_get-append_seam front run [])),
+)
+
+abbrev pub longer : Run → Run
+longer run = record { lines = run.lines; packets = run.packets + 1; row = run.row; start = run.start }
+
+module _ (runs : List Run) (last : ℕ) (run : Run) (count : suc last ≡ length runs) (there : slice_get runs last ≡ Some run)
+  where
+    with-longer : set runs last (longer run) ≡ take last runs ++ longer run ∷ []
+    with-longer = set_split runs last (longer run) (omega (arith, count))
+        ∙ ap (λ l. take last runs ++ longer run ∷ l) (drop_all (suc last) runs (omega (arith, count)))
+
+    all-runs : take (suc last) runs ≡ runs
+    all-runs = ap (λ n. take n runs) count ∙ take-length runs
+
+    with-last : runs ≡ take last runs ++ run ∷ []
+    with-last = sym all-runs ∙ take-suc runs last run (omega (arith, count))
+        ∙ ap (λ r. take last runs ++ r ∷ []) (get_or_from_slice_get runs last run run there)
+
+    pub longer-active : (lines : List ℕ) → run.lines.items ≡ lines →
+        active_in (set runs last (longer run)) ≡ active_in runs ++ lines ∷ []
+    longer-active lines same =
+        ap active_in with-longer ∙ flat_map-append lines_of (take last runs) (longer run ∷ [])
+        ∙ ap (λ l. before runs last ++ l) (append-nil (lines_of (longer run))
+        ∙ sym (replicate-append-replicate run.packets 1 run.lines.items))
+        ∙ sym (append_assoc (before runs last) (lines_of run) (run.lines.items ∷ []))
+        ∙ ap₂ (λ l x. l ++ x ∷ []) (sym (before-next runs last run there) ∙ ap active_in all-runs) same
+
+    pub longer-runs : (size : ℕ) → ArePacketRuns size runs → ArePacketRuns size (set runs last (longer run))
+    longer-runs size are =
+        let parts = without-run size (take last runs) run (subst (ArePacketRuns size) with-last are) in
+        subst (ArePacketRuns size) (sym with-longer) (with-run size (take last runs) (longer run) parts.0
+        (record { narrow = parts.1.narrow; row = parts.1.row; start = parts.1.start }))
+
+pub grown : (size : ℕ) (runs : List Run) (count end : ℕ) → IsPacketList size runs count end →
+    (more : List Run) (lines : List ℕ) (octets-more : ℕ) → ArePacketRuns size more →
+    active_in more ≡ active_in runs ++ lines ∷ [] → count < most_packets → octets-more ≡ size * length lines * 16 →
+    IsPacketList size more (count + 1) (end + octets-more)
+grown size runs count end is more lines octets-more are active few own = record {
   small = is.small;
-  few = (let e = length-append list (packet ∷ []) in omega (arith, e, few));
-  lines = All-append (λ (p : Packet). length p.lines.items ≤ most_lines) list (packet ∷ []) is.lines
-      (All-cons (λ (p : Packet). length p.lines.items ≤ most_lines) packet [] own
-      (All-nil (λ (p : Packet). length p.lines.items ≤ most_lines)));
-  starts = starts;
-  ends = last;
+  begin = are;
+  all = (let all = is.all in omega (arith, all, ap length active, length-append (active_in runs) (lines ∷ [])));
+  few = omega (arith, few);
+  ends =
+      let ends = is.ends in
+      let parts = octets-append size (active_in runs) (lines ∷ []) in
+      let last : octets_of size (lines ∷ []) ≡ size * length lines * 16 = ap (λ n. size * n * 16) (single (length lines)) in
+      omega (arith, ends, parts, last, own, ap (octets_of size) active);
 }
   where
-    starts : (k : ℕ) (p : Packet) → slice_get (list ++ packet ∷ []) k ≡ Some p →
-        p.start ≡ start_by size (active_in (list ++ packet ∷ [])) k
-    starts k p there = elim (front-or-last list packet k p there) [
-      | inl front ↦ is.starts k p front.0
-          ∙ sym (start-front size list packet k (let low = front.1 in omega (arith, low)))
-      | inr last ↦ ap (λ (p : Packet). p.start) last.0 ∙ start ∙ is.ends
-          ∙ sym (start-front size list packet (length list) (omega arith))
-          ∙ ap (start_by size (active_in (list ++ packet ∷ []))) (sym last.1)
-    ]
-
-    last : next ≡ start_by size (active_in (list ++ packet ∷ [])) (length (list ++ packet ∷ []))
-    last =
-        let all : List (List ℕ) = active_in (list ++ packet ∷ []) in
-        let count : length (list ++ packet ∷ []) ≡ suc (length list) =
-        (let e = length-append list (packet ∷ []) in omega (arith, e)) in
-        let size-all = length-map (list ++ packet ∷ []) (λ (p : Packet). p.lines.items) in
-        let step = start-next size all (length list) (omega (arith, size-all, count)) in
-        let front = start-front size list packet (length list) (omega arith) in
-        let own-lines : size * length (slice_index_or all (length list) []) ≡ size * length packet.lines.items =
-        ap (λ (l : List ℕ). size * length l)
-        (lines-at (list ++ packet ∷ []) (length list) packet (slice_get-append_seam list packet [])) in
-        omega (arith, ends, step, front, own-lines, is.ends) ∙ ap (start_by size all) (sym count)
+    single : (n : ℕ) → 0 + n ≡ n
+    single n = omega arith

@@ -1,9 +1,10 @@
 //! The rows that control packets govern: which lines carry payload in them, whether the sink knows these lines,
 //! and where in the stream they begin.
-ghost use Rattle.std.specs.Prelude.{◌≡◌, suc, ◌+◌, ◌-◌, ◌*◌, ◌/◌, ◌≤◌, ◌<◌, [], ◌∷◌, ◌++◌, length, List, OnOk};
-ghost use Rattle.std.specs.Prelude.{OnErr, IfSome, IfNone, Option};
+ghost use Rattle.std.specs.Prelude.{◌≡◌, ℕ, suc, ◌+◌, ◌-◌, ◌*◌, ◌/◌, ◌≤◌, ◌<◌, [], ◌∷◌, ◌++◌, length, List, OnOk};
+ghost use Rattle.std.specs.Prelude.{OnErr, IfSome, IfNone, IsTrue, Option, Some, slice_get};
+ghost use Rattle.fate_engine.specs.declared.fate_core.packet_rows.Run.{Run as RunData};
 ghost use Rattle.law_model.specs.Common.{Scenario, Told, active, is_known, table_of, place_of, width, most_lines, most_packets};
-ghost use Rattle.fate_engine.specs.fate_core.Packets.{ArePackets, start_by};
+ghost use Rattle.fate_engine.specs.fate_core.Packets.{ArePackets, ArePacketRuns, IsRun, active_in, octets_of, start_by};
 
 use arrayvec::ArrayVec;
 use law_model::{MOST_LINES, MOST_PACKETS};
@@ -17,15 +18,63 @@ pub(super) const FIRST: u32 = 24;
 pub(super) const ROWS: u32 = 16;
 
 /// The most packets.
-const MOST: usize = MOST_PACKETS as usize;
+const MOST: u32 = MOST_PACKETS as u32;
 
-/// A control packet.
+/// Control packets in turn under which the same lines are active.
 #[derive(Drop)]
-struct Packet {
-    /// The lines that carry payload in its rows.
+struct Run {
+    /// The lines that carry payload in their rows.
     lines: ArrayVec<u8, MOST_LINES>,
-    /// The place of the stream at which its rows begin.
+    /// How many packets there are.
+    packets: u32,
+    /// The first row that they govern.
+    row: u32,
+    /// The place of the stream at which it begins.
     start: u64,
+}
+
+/// Whether one more packet goes on with the last run.
+fn goes_on(runs: &[Run], lines: &ArrayVec<u8, MOST_LINES>) -> bool
+    ensures some { IsTrue result → 0 < length runs.now }
+    ensures same { (run : RunData) → IsTrue result →
+        slice_get runs.now (length runs.now - 1) ≡ Some run → run.lines.items ≡ lines.now.items }
+{
+    match runs.last() {
+        Some(last) => last.lines == *lines,
+        None => false,
+    }
+}
+
+/// Adds a packet behind those of the runs, with the first row that it governs and its place. Where memory is
+/// short nothing changes.
+fn add_packet(
+    runs: &mut Vec<Run>,
+    lines: ArrayVec<u8, MOST_LINES>,
+    row: u32,
+    start: u64,
+) -> Result<(), AllocError>
+    requires few { length (active_in runs.old.items) < most_packets }
+    requires lines { length lines.items ≤ most_lines }
+    requires row { row ≡ 24 + 16 * length (active_in runs.old.items) }
+    ensures active { OnOk result
+        (active_in runs.new.items ≡ active_in runs.old.items ++ lines.items ∷ []) }
+    ensures begin { (size : ℕ) → ArePacketRuns size runs.old.items →
+        start ≡ octets_of size (active_in runs.old.items) →
+        OnOk result (ArePacketRuns size runs.new.items) }
+    ensures err { OnErr result (runs.new.items ≡ runs.old.items) }
+{
+    if goes_on(runs, &lines) {
+        let last = runs.len() - 1;
+        runs[last].packets += 1;
+        return Ok(());
+    }
+    runs.push(Run {
+        lines,
+        packets: 1,
+        row,
+        start,
+    })?;
+    Ok(())
 }
 
 /// The packets of a group in their order: packet `k` governs rows `16 k + 24` to `16 k + 39`, and the rows
@@ -35,7 +84,10 @@ struct Packet {
 #[derive(Drop)]
 pub struct Packets {
     size: u16,
-    packets: Vec<Packet>,
+    /// Their runs: one more only where a command or a failure changes the active lines.
+    runs: Vec<Run>,
+    /// How many packets there are.
+    count: u32,
     /// Of the first packets, whether the sink knows which lines are active.
     known: Vec<bool>,
     /// The place at which the rows of all packets end.
@@ -47,9 +99,9 @@ impl Model for Packets {
 
     ghost Value = { PacketList };
 
-    ghost view = { λ p. packets_in p.size p.packets.items p.known.items };
+    ghost view = { λ p. packets_in p.size p.runs.items p.known.items };
 
-    ghost invariant = { λ p. IsPacketList p.size p.packets.items p.end };
+    ghost invariant = { λ p. IsPacketList p.size p.runs.items p.count p.end };
 }
 
 impl Packets {
@@ -59,7 +111,8 @@ impl Packets {
     {
         Packets {
             size,
-            packets: Vec::new(alloc),
+            runs: Vec::new(alloc),
+            count: 0,
             known: Vec::new(alloc),
             end: 0,
         }
@@ -74,17 +127,10 @@ impl Packets {
         ensures err { OnErr result (self.new ≡ self.old) }
     {
         let octets = u64::from(self.size) * active.len() as u64 * u64::from(ROWS);
-        let start = self.end;
-        match self.packets.push(Packet {
-            lines: active,
-            start,
-        }) {
-            Ok(()) => {
-                self.end = start + octets;
-                Ok(())
-            }
-            Err(_) => Err(AllocError),
-        }
+        add_packet(&mut self.runs, active, FIRST + ROWS * self.count, self.end)?;
+        self.count += 1;
+        self.end += octets;
+        Ok(())
     }
 
     /// Takes whether the sink knows the active lines under the next packet of which it isn't told yet. Where
@@ -109,12 +155,8 @@ impl Packets {
         if row <= FIRST {
             return 0;
         }
-        let k = ((row - FIRST) / ROWS) as usize;
-        if k == self.packets.len() {
-            return self.end;
-        }
-        let packet = &self.packets[k];
-        packet.start + u64::from((row - FIRST) % ROWS) * self.width(packet)
+        let run = self.run_of(row - 1);
+        run.start + u64::from(row - run.row) * self.width(run)
     }
 
     /// The row that has the octet at a place, or `None` where it comes after the rows of all packets.
@@ -133,10 +175,9 @@ impl Packets {
         if place >= self.end {
             return None;
         }
-        let k = self.packet_at(place);
-        let packet = &self.packets[k];
-        let row = (place - packet.start) / self.width(packet);
-        Some(FIRST + k as u32 * ROWS + row as u32)
+        let run = self.run_at(place);
+        let row = (place - run.start) / self.width(run);
+        Some(run.row + row as u32)
     }
 
     /// The active lines under a packet.
@@ -147,7 +188,8 @@ impl Packets {
             ArePackets scenario cells self.now →
             result.now ≡ active (table_of scenario cells packet) }
     {
-        &self.packets[packet].lines
+        prove!(self.count <= MOST);
+        &self.run_of(FIRST + packet as u32 * ROWS).lines
     }
 
     /// Whether the sink knows the active lines under a packet.
@@ -169,19 +211,31 @@ impl Packets {
         if row < FIRST {
             return 0;
         }
-        let lines = self.active(self.packet_of(row) as usize);
-        lines.len() as u32
+        self.run_of(row).lines.len() as u32
     }
 
-    /// The packet in whose rows a place lies.
-    fn packet_at(&self, place: u64) -> usize
-        requires { place < start_by self.now.size self.now.active (length self.now.active) }
-        ensures within { result < length self.now.active }
-        ensures from { start_by self.now.size self.now.active result ≤ place }
-        ensures below { place < start_by self.now.size self.now.active (suc result) }
+    /// The run that governs a row.
+    fn run_of(&self, row: u32) -> &Run
+        requires late { 24 ≤ row }
+        requires governed { row < 16 * length self.now.active + 24 }
+        ensures run { IsRun self.now result.now }
+        ensures from { result.now.row ≤ row }
+        ensures below { row < result.now.row + 16 * result.now.packets }
     {
-        let begun = self.packets.partition_point(|packet| packet.start <= place);
-        begun - 1
+        let begun = self.runs.partition_point(|run| run.row <= row);
+        &self.runs[begun - 1]
+    }
+
+    /// The run in whose rows a place lies.
+    fn run_at(&self, place: u64) -> &Run
+        requires { place < start_by self.now.size self.now.active (length self.now.active) }
+        ensures run { IsRun self.now result.now }
+        ensures from { result.now.start ≤ place }
+        ensures below { place < result.now.start
+            + 16 * result.now.packets * (self.now.size * length result.now.lines.items) }
+    {
+        let begun = self.runs.partition_point(|run| run.start <= place);
+        &self.runs[begun - 1]
     }
 
     /// The packet that governs a row.
@@ -191,15 +245,14 @@ impl Packets {
         ensures packet { result ≡ (row - 24) / 16 }
         ensures few { row < 100000024 }
     {
-        let packets = self.packets.len();
-        prove!(packets <= MOST);
+        prove!(self.count <= MOST);
         (row - FIRST) / ROWS
     }
 
-    /// The octets of a row under a packet.
-    fn width(&self, packet: &Packet) -> u64
-        ensures { result ≡ self.now.size * length packet.now.lines.items }
+    /// The octets of a row under a run.
+    fn width(&self, run: &Run) -> u64
+        ensures { result ≡ self.now.size * length run.now.lines.items }
     {
-        u64::from(self.size) * packet.lines.len() as u64
+        u64::from(self.size) * run.lines.len() as u64
     }
 }
