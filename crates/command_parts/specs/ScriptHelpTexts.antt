@@ -5,7 +5,6 @@ use Rattle.text_scripts.specs.declared.script_read.script_keyword.Keyword.{Keywo
 use Rattle.text_scripts.specs.declared.script_read.script_keyword.Keyword.TheVariants as word
 use Rattle.text_scripts.specs.declared.script_read.script_keyword.Part.{Part}
 use Rattle.text_scripts.specs.declared.script_read.script_keyword.Part.TheVariants as part
-use Rattle.law_model.specs.Common.{most_items}
 use Rattle.text_scripts.specs.declared.script_read.script_fault.SizesFault.{SizesFault}
 use Rattle.text_scripts.specs.declared.script_read.script_fault.SizesFault.TheVariants as sizes
 use Rattle.text_scripts.specs.declared.script_read.script_fault.LineFault.{LineFault}
@@ -69,7 +68,7 @@ line_help_text (wrong.Twice option) = codes "there is a " ++ keyword_text option
 line_help_text (wrong.FullLine line) = codes "line " ++ decimal line ++ codes " has 256 failures already"
 line_help_text wrong.FullPath = codes "there are 256 lost lines already"
 line_help_text (wrong.TooMany items) =
-    codes "a script has at most " ++ decimal most_items ++ codes " items, and this line brings it to " ++ decimal items
+    codes "a script has at most 268435456 items, and this line brings it to " ++ decimal items
 line_help_text (wrong.FailureBefore end) = codes "the failure before ends at " ++ decimal end
 line_help_text (wrong.LossBefore end) = codes "the loss before ends at " ++ decimal end
 line_help_text (wrong.FrameBefore due) = codes "the frame before is due at " ++ decimal due

@@ -4,30 +4,31 @@ ghost use Rattle.text_report.specs.ReportLines.{refused_texts, total_text};
 ghost use Rattle.law_model.specs.Common.{Start};
 ghost use Rattle.text_got.specs.TextSoFar.{HasText};
 
-use law_model::{Refusal, Totals};
+use law_model::{Refusals, Totals};
 use octet_io::ByteSink;
 use text_got::GotLines;
 use text_report::{REFUSED_ROOM, TOTAL_ROOM, refused_line, total_line};
 
 /// Writes the lines of refused items.
-fn write_refusals<K: ByteSink>(refusals: &[(u32, Refusal)], got: &mut GotLines<K>)
+fn write_refusals<K: ByteSink>(refusals: Refusals<'_>, got: &mut GotLines<K>)
     ensures { (start : Start) (before : List ℕ) →
         HasText K.written K.faults got.old start before →
-        HasText K.written K.faults got.new start (before ++ refused_texts refusals.now) }
+        HasText K.written K.faults got.new start (before ++ refused_texts refusals.entry) }
 {
+    let mut left = refusals;
     let mut line = [0u8; REFUSED_ROOM];
-    for (item, why) in refusals {
-        let end = refused_line(*item, why, &mut line);
+    while let Some((item, why)) = left.next() {
+        let end = refused_line(item, &why, &mut line);
         got.line(&line[..end]);
     }
 }
 
 /// Writes what follows the lines of delivered frames: those of refused items, each with its number, and that of totals.
-pub fn write_rest<K: ByteSink>(refusals: &[(u32, Refusal)], totals: &Totals, got: &mut GotLines<K>)
+pub fn write_rest<K: ByteSink>(refusals: Refusals<'_>, totals: &Totals, got: &mut GotLines<K>)
     ensures { (start : Start) (before : List ℕ) →
         HasText K.written K.faults got.old start before →
         HasText K.written K.faults got.new start
-        (before ++ refused_texts refusals.now ++ total_text totals.now) }
+        (before ++ refused_texts refusals.entry ++ total_text totals.now) }
 {
     write_refusals(refusals, got);
     let mut line = [0u8; TOTAL_ROOM];

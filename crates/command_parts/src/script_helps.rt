@@ -5,7 +5,6 @@ ghost use Rattle.command_parts.specs.ScriptHelpTexts.{slip_help_text, spread_hel
 ghost use Rattle.command_parts.specs.ScriptHelpTexts.{lag_help_text};
 ghost use Rattle.text_scripts.specs.declared.script_read.script_fault.LineFault.{LineFault};
 
-use law_model::MOST_ITEMS;
 use text_help::{count_help, field_help, missing_help, number_help, order_help};
 use text_report::TextCursor;
 use text_scripts::script_read::{Keyword, LineFault, Part, SizesFault};
@@ -116,8 +115,10 @@ fn many_help(items: u64, out: &mut [u8]) -> usize
     ensures text { take result out.new ≡ line_help_text (LineFault.TooMany items) }
 {
     let mut line = TextCursor::new(out);
-    line.number(b"a script has at most ", MOST_ITEMS);
-    line.number(b" items, and this line brings it to ", items);
+    line.number(
+        b"a script has at most 268435456 items, and this line brings it to ",
+        items,
+    );
     line.end()
 }
 

@@ -305,6 +305,7 @@ is_bare d is = record {
   config = is.config;
   no_items = λ at. refl;
   items = record { each = All-none _; frames = rising-none; commands = rising-none };
+  few = omega arith;
   frame_due = All-none _;
   command_due = All-none _;
   no_events = is.no_events;
