@@ -315,7 +315,7 @@ is_bare d is = record {
 network_of : (d : Draft) → IsDraft d → missing_line d ≡ None → config_fault d.config ≡ None → IsNetwork d.config
 unfolding bare
 network_of d is whole none =
-    (IsValid-draft (bare d) (is_bare d is) (whole_config d whole) (omega arith) none).sound.network
+    (IsValid-draft (bare d) (is_bare d is) (whole_config d whole) none).sound.network
 
 uncut_slips : (lists : List (List Window)) → map course_slip (map uncut lists) ≡ map slip_of lists
 uncut_slips [] = refl
