@@ -20,7 +20,7 @@ pub struct Found {
     /// The accepted frames that are due before the first taken row in which a line carried payload.
     pub early: u32,
     /// The items that were refused.
-    pub refused: usize,
+    pub refused: u32,
 }
 
 /// The line of a line that carried payload in no row.

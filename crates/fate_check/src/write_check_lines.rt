@@ -174,19 +174,19 @@ fn write_early<K: ByteSink>(walk: &Walk, seen: &SeenWalk, got: &mut GotLines<K>)
 }
 
 /// Writes the lines of items that were refused. Answers how many there are.
-fn write_refused<K: ByteSink>(walk: &Walk, got: &mut GotLines<K>) -> usize
+fn write_refused<K: ByteSink>(walk: &Walk, got: &mut GotLines<K>) -> u32
     ensures text { (start : Start) (before : List ℕ) →
         HasText K.written K.faults got.old start before → HasText K.written K.faults got.new start
         (before ++ refused_items (refusals_of (leg_of walk.now.script) walk.now.counts)) }
     ensures count { result ≡ length (refusals_of (leg_of walk.now.script) walk.now.counts) }
 {
-    let refusals = walk.refusals();
+    let mut refusals = walk.refusals();
     let mut line = [0u8; ROOM];
-    for (item, why) in refusals {
-        let end = refused_line(*item, *why, &mut line);
+    while let Some((item, why)) = refusals.next() {
+        let end = refused_line(item, why, &mut line);
         got.line(&line[..end]);
     }
-    refusals.len()
+    walk.totals().refused
 }
 
 /// Writes the last line.

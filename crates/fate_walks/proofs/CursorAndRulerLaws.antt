@@ -2,7 +2,7 @@
 use Rattle.std.proofs.Common.{◌≡◌, ℕ, zero, suc, ◌+◌, ◌-◌, ◌<◌, ◌≤◌, nat_lt, if◌then◌else◌, Bool, true, false, List}
 use Rattle.std.proofs.Common.{[], ◌∷◌, ◌++◌, take, drop, length, All, Option, Some, None, slice_get, get_or, ◌⊎◌, refl}
 use Rattle.std.proofs.Common.{sym, ◌∙◌, ap, ap₂, subst, arith, inl, inr, append-nil, length-append, map, filter, fold}
-use Rattle.std.proofs.Common.{option_map, ◌^◌, is_some}
+use Rattle.std.proofs.Common.{option_map, ◌^◌, is_some, option_to_list, IfSome, IfNone}
 use Rattle.std.proofs.lemmas.Bool.{lt-ltb}
 use Rattle.std.proofs.lemmas.List.{take_all, drop_all, map-append}
 use Rattle.std.proofs.lemmas.List.Concat.{flat_map-append}
@@ -15,11 +15,13 @@ use Rattle.law_model.specs.Common.{extents, Stream, frame_refusal, offered_by, o
 use Rattle.law_model.specs.Common.{stream_before, IsSound}
 use Rattle.law_model.specs.declared.script_types.Item.{Item}
 use Rattle.law_model.specs.declared.script_types.ItemKind.{ItemKind}
+use Rattle.law_model.specs.session.Items.{sort_of}
 use Rattle.law_model.specs.declared.item_refusals.Refusal.{Refusal}
+use Rattle.law_model.specs.declared.script_items.item_list.ItemSort.TheVariants.{Frame as frame_sort}
 use Rattle.law_model.specs.declared.script_types.ItemKind.TheVariants.{Frame, Add, Remove}
 use Rattle.law_walk.proofs.LandedItemRefusalAndTotalLaws.{frame-waits, filter-first, offer-at}
 use Rattle.law_walk.specs.Common.{Numbered, is_client, with_if, landed_from, refused_by, refusal_at, refusals_among}
-use Rattle.law_walk.specs.Common.{refusals_of, session_of, stream_met, kind_refusal, IsWalked}
+use Rattle.law_walk.specs.Common.{session_of, stream_met, kind_refusal, IsWalked}
 use Rattle.fate_walks.specs.walk_frames.ItemCursor.{Cursor, frames_before_item, frames_left, IsAt, IsNext, IsSkipped}
 use Rattle.fate_walks.specs.walk_frames.ItemCursor.{IsPast}
 use Rattle.std.proofs.lemmas.Bool.Decides.{nat_tests}
@@ -123,8 +125,8 @@ module _ (leg : Leg) (s : Counts) (cursor : Cursor) (at : IsAt leg s cursor) (it
 
   -- what the refusals from here on are, by whether the item is a frame
   pub frame-refusals : is_client item.kind ≡ true →
-      drop cursor.refusal (refusals_of leg s) ≡ refused_by cursor.item (refusal_at leg own) ++ refusals_among
-      leg (landed_from (cursor.left - 1) at.commands (cursor.item + 1) behind)
+      cursor.refusals ≡ refused_by cursor.item (refusal_at leg own) ++ refusals_among leg
+      (landed_from (cursor.left - 1) at.commands (cursor.item + 1) behind)
   frame-refusals client =
       at.refusals ∙ ap (refusals_among leg)
       (from-here cursor.left at.commands ∙ landed-frame cursor.left at.commands cursor.item item behind client some
@@ -136,8 +138,7 @@ module _ (leg : Leg) (s : Counts) (cursor : Cursor) (at : IsAt leg s cursor) (it
   with-refusals false rest = (None, refl)
 
   pub other-refusals : is_client item.kind ≡ false →
-      (why : Option Refusal) × (drop cursor.refusal (refusals_of leg s)
-      ≡ refused_by cursor.item why ++ refusals_among leg
+      (why : Option Refusal) × (cursor.refusals ≡ refused_by cursor.item why ++ refusals_among leg
       (landed_from cursor.left (at.commands - 1) (cursor.item + 1) behind))
   other-refusals other =
       let parts = with-refusals (nat_lt 0 at.commands)
@@ -172,48 +173,71 @@ module _ (leg : Leg) (s : Counts) (cursor : Cursor) (at : IsAt leg s cursor) (it
       let n = length-append (offers_of (take cursor.item leg.items)) (offer_of item.due item.kind) in
       omega (arith, ap length (offers-next leg.items cursor.item item there), n)
 
+-- what is left is the next refusal and those after it
+pub next-and-rest : (all rest : List (ℕ × Refusal)) (next : Option (ℕ × Refusal)) →
+    IfSome next (λ x. all ≡ x ∷ rest) → IfNone next (all ≡ []) → IfNone next (rest ≡ []) →
+    option_to_list next ++ rest ≡ all
+next-and-rest all rest None some none ended = ended ∙ sym none
+next-and-rest all rest (Some x) some none ended = sym some
+
 -- the next refusal is the item's, where its number is
-pub found-refusal : (refusals : List (ℕ × Refusal)) (r item : ℕ) (x : ℕ × Refusal) → slice_get refusals r ≡ Some x →
-    x.0 ≡ item → (why : Option Refusal) (later : List (ℕ × Refusal)) →
-    drop r refusals ≡ refused_by item why ++ later → All (λ (refused : ℕ × Refusal). item < refused.0) later →
-    (Some x.1 ≡ why) × (drop (r + 1) refusals ≡ later)
-found-refusal refusals r item x there own None later is far =
-    absurd (first later (sym (drop-one refusals r x there) ∙ is) far)
+pub found-refusal : (item : ℕ) (x : ℕ × Refusal) (rest : List (ℕ × Refusal)) → x.0 ≡ item → (why : Option Refusal)
+    (later : List (ℕ × Refusal)) → x ∷ rest ≡ refused_by item why ++ later →
+    All (λ (refused : ℕ × Refusal). item < refused.0) later →
+    (Some x.1 ≡ why) × (rest ≡ later)
+found-refusal item x rest own None later is far = absurd (first later is far)
   where
-    first : (later : List (ℕ × Refusal)) → x ∷ drop (r + 1) refusals ≡ later →
+    first : (later : List (ℕ × Refusal)) → x ∷ rest ≡ later →
         All (λ (refused : ℕ × Refusal). item < refused.0) later → ⊥
     first [] e far = cc
     first (y ∷ ys) e far = let low = far 0 x (omega arith) in let same : x ≡ y = cc in
         let number = ap (λ (refused : ℕ × Refusal). refused.0) same in omega (arith, low, number, own)
-found-refusal refusals r item x there own (Some why) later is far =
-    let parts : x ∷ drop (r + 1) refusals ≡ (item, why) ∷ later = sym (drop-one refusals r x there) ∙ is in
+found-refusal item x rest own (Some why) later is far =
     let head : x ≡ (item, why) = cc in
-    let tail : drop (r + 1) refusals ≡ later = cc in
+    let tail : rest ≡ later = cc in
     (ap (λ (refused : ℕ × Refusal). Some refused.1) head, tail)
 
+-- and it isn't, where its number isn't
+pub other-refusal : (item : ℕ) (left : List (ℕ × Refusal)) →
+    ((x : ℕ × Refusal) (rest : List (ℕ × Refusal)) → left ≡ x ∷ rest → x.0 ≡ item → ⊥) → (why : Option Refusal)
+    (later : List (ℕ × Refusal)) → left ≡ refused_by item why ++ later → (None ≡ why) × (left ≡ later)
+other-refusal item left other None later is = (refl, is)
+other-refusal item left other (Some why) later is = absurd (other (item, why) later is refl)
+
+-- ---- an item by its number
+pub item-there : (items : List Item) (i : ℕ) → i < length items → (item : Item) × (slice_get items i ≡ Some item)
+item-there items i low = let none : Item = record { due = 0; kind = Add 0 } in
+    (get_or items i none, slice_get-get_or items i none low)
+
+pub sort-frame : (kind : ItemKind) (n : ℕ) → sort_of kind ≡ frame_sort n →
+    (octets : List ℕ) × (kind ≡ Frame octets) × (n ≡ length octets)
+sort-frame (Frame octets) n is = let size : n ≡ length octets = cc in (octets, refl, size)
+sort-frame (Add line) n is = absurd cc
+sort-frame (Remove line) n is = absurd cc
+
+pub sort-other : (kind : ItemKind) → ((n : ℕ) → sort_of kind ≡ frame_sort n → ⊥) → is_client kind ≡ false
+sort-other (Frame octets) other = absurd (other (length octets) refl)
+sort-other (Add line) other = refl
+sort-other (Remove line) other = refl
+
 -- ---- what a pass makes of a cursor
-module _ (leg : Leg) (s : Counts) (cursor : Cursor) (at : IsAt leg s cursor) (some : 0 < cursor.left)
-    (low : cursor.item < length leg.items)
-    (items : List Item) (are : items ≡ leg.items) (refusals : List (ℕ × Refusal))
-    (told : refusals ≡ refusals_of leg s)
-    (i : ℕ) (here : i ≡ cursor.item) (item : Item) (item-is : item ≡ get_or items i item) (result : Option Refusal)
-    (r : ℕ)
-    (finds : (why : Option Refusal) (later : List (ℕ × Refusal)) →
-    drop cursor.refusal refusals ≡ refused_by i why ++ later →
-    All (λ (refused : ℕ × Refusal). i < refused.0) later →
-    (result ≡ why) × (drop r refusals ≡ later)) where
+module _ (leg : Leg) (s : Counts) (cursor : Cursor) (at : IsAt leg s cursor) (some : 0 < cursor.left) (i : ℕ)
+    (here : i ≡ cursor.item) (item : Item) (own : slice_get leg.items i ≡ Some item) (result : Option Refusal)
+    (rest : List (ℕ × Refusal))
+    (finds : (why : Option Refusal) (later : List (ℕ × Refusal)) → cursor.refusals ≡ refused_by i why ++ later →
+    All (λ (refused : ℕ × Refusal). i < refused.0) later → (result ≡ why) × (rest ≡ later)) where
   there : slice_get leg.items cursor.item ≡ Some item
-  there = slice_get-get_or leg.items cursor.item item low
-      ∙ ap Some (sym (item-is ∙ ap₂ (λ l n. get_or l n item) are here))
+  there = ap (slice_get leg.items) (sym here) ∙ own
+
+  low : cursor.item < length leg.items
+  low = slice_get_within leg.items cursor.item item there
 
   found : (why : Option Refusal) (later : List (ℕ × Refusal)) →
-      drop cursor.refusal (refusals_of leg s) ≡ refused_by cursor.item why ++ later →
-      All (λ (refused : ℕ × Refusal). cursor.item < refused.0) later → (result ≡ why) ×
-      (drop r (refusals_of leg s) ≡ later)
+      cursor.refusals ≡ refused_by cursor.item why ++ later →
+      All (λ (refused : ℕ × Refusal). cursor.item < refused.0) later → (result ≡ why) × (rest ≡ later)
   found why later is far =
-      let both = finds why later (ap (drop cursor.refusal) told ∙ is ∙ ap (λ n. refused_by n why ++ later) (sym here))
-      (subst (λ n. All (λ (refused : ℕ × Refusal). n < refused.0) later) (sym here) far) in
-      (both.0, sym (ap (drop r) told) ∙ both.1)
+      finds why later (is ∙ ap (λ n. refused_by n why ++ later) (sym here))
+      (subst (λ n. All (λ (refused : ℕ × Refusal). n < refused.0) later) (sym here) far)
 
   one-offer : (octets : List ℕ) → item.kind ≡ Frame octets → length (offer_of item.due item.kind) ≡ 1
   one-offer octets kind = ap (λ kind. length (offer_of item.due kind)) kind
@@ -221,55 +245,56 @@ module _ (leg : Leg) (s : Counts) (cursor : Cursor) (at : IsAt leg s cursor) (so
   client : (octets : List ℕ) → item.kind ≡ Frame octets → is_client item.kind ≡ true
   client octets kind = ap is_client kind
 
+  found-frame : (octets : List ℕ) → item.kind ≡ Frame octets →
+      (result ≡ refusal_at leg (record { number = cursor.item; item = item })) ×
+      (rest ≡ refusals_among leg
+      (landed_from (cursor.left - 1) at.commands (cursor.item + 1) (drop (cursor.item + 1) leg.items)))
+  found-frame octets kind =
+      found (refusal_at leg (record { number = cursor.item; item = item }))
+      (refusals_among leg
+      (landed_from (cursor.left - 1) at.commands (cursor.item + 1) (drop (cursor.item + 1) leg.items)))
+      (frame-refusals leg s cursor at item there some (client octets kind))
+      (late-refusals leg s cursor at item there some (cursor.left - 1) at.commands)
+
   pass-at : (octets : List ℕ) (now : Cursor) → item.kind ≡ Frame octets →
-      now ≡ record { item = i + 1; refusal = r; left = cursor.left - 1 } → IsAt leg s now
+      now ≡ record { item = i + 1; refusals = rest; left = cursor.left - 1 } → IsAt leg s now
   pass-at octets now kind is =
-      let why = refusal_at leg (record { number = cursor.item; item = item }) in
-      let later = refusals_among leg
-      (landed_from (cursor.left - 1) at.commands (cursor.item + 1) (drop (cursor.item + 1) leg.items)) in
-      let both = found why later (frame-refusals leg s cursor at item there some (client octets kind))
-      (late-refusals leg s cursor at item there some (cursor.left - 1) at.commands) in
       let one = one-offer octets kind in
-      subst (IsAt leg s) (sym (is ∙ ap (λ n. record { item = n + 1; refusal = r; left = cursor.left - 1 }) here))
+      subst (IsAt leg s) (sym (is ∙ ap (λ n. record { item = n + 1; refusals = rest; left = cursor.left - 1 }) here))
       (record {
         sound = at.sound;
         walked = at.walked;
         commands = at.commands;
         within = omega (arith, low);
         left = (let left = at.left in omega (arith, before-next leg s cursor at item there some, one, left));
-        refusals = both.1;
+        refusals = (found-frame octets kind).1;
       })
 
-  pass-next : (octets : List ℕ) (n : ℕ) (now : Cursor) → item.kind ≡ Frame octets → n ≡ length octets →
-      now ≡ record { item = i + 1; refusal = r; left = cursor.left - 1 } →
-      IsNext leg cursor now (record { number = i; due = item.due; length = n; refusal = result })
-  pass-next octets n now kind size is =
-      let why = refusal_at leg (record { number = cursor.item; item = item }) in
-      let later = refusals_among leg
-      (landed_from (cursor.left - 1) at.commands (cursor.item + 1) (drop (cursor.item + 1) leg.items)) in
-      let both = found why later (frame-refusals leg s cursor at item there some (client octets kind))
-      (late-refusals leg s cursor at item there some (cursor.left - 1) at.commands) in
-      subst (λ k. IsNext leg cursor now (record { number = k; due = item.due; length = n; refusal = result }))
-      (sym here)
-      (subst (λ (now : Cursor). IsNext leg cursor now
-      (record { number = cursor.item; due = item.due; length = n; refusal = result }))
-      (sym (is ∙ ap (λ n. record { item = n + 1; refusal = r; left = cursor.left - 1 }) here)) (record {
-        item = item;
-        octets = octets;
-        there = there;
-        kind = kind;
-        due = refl;
-        length_is = size;
-        refusal = both.0;
-        before = refl;
-        after = refl;
-        rest = frame-rest leg s cursor at item there some (client octets kind);
-      }))
+  pass-next : (octets : List ℕ) (due n : ℕ) (now : Cursor) → item.kind ≡ Frame octets → due ≡ item.due →
+      n ≡ length octets → now ≡ record { item = i + 1; refusals = rest; left = cursor.left - 1 } →
+      IsNext leg cursor now (record { number = i; due = due; length = n; refusal = result })
+  pass-next octets due n now kind tick size is = record {
+    item = item;
+    octets = octets;
+    there = own;
+    kind = kind;
+    due = tick;
+    length_is = size;
+    refusal = (found-frame octets kind).0
+        ∙ ap (λ n. refusal_at leg (record { number = n; item = item })) (sym here);
+    before = ap (frames_before_item leg) here;
+    after = ap (λ (now : Cursor). now.item) is;
+    rest = frame-rest leg s cursor at item there some (client octets kind)
+        ∙ ap (λ n. record { number = n; item = item } ∷ landed_from (cursor.left - 1) 0 (n + 1)
+        (drop (n + 1) leg.items)) (sym here)
+        ∙ ap (λ (now : Cursor). record { number = i; item = item } ∷ frames_left leg now) (sym is);
+  }
 
-  pub passed : (octets : List ℕ) (n : ℕ) (now : Cursor) → item.kind ≡ Frame octets → n ≡ length octets →
-      now ≡ record { item = i + 1; refusal = r; left = cursor.left - 1 } →
-      IsAt leg s now × IsNext leg cursor now (record { number = i; due = item.due; length = n; refusal = result })
-  passed octets n now kind size is = (pass-at octets now kind is, pass-next octets n now kind size is)
+  pub passed : (octets : List ℕ) (due n : ℕ) (now : Cursor) → item.kind ≡ Frame octets → due ≡ item.due →
+      n ≡ length octets → now ≡ record { item = i + 1; refusals = rest; left = cursor.left - 1 } →
+      IsAt leg s now × IsNext leg cursor now (record { number = i; due = due; length = n; refusal = result })
+  passed octets due n now kind tick size is =
+      (pass-at octets now kind is, pass-next octets due n now kind tick size is)
 
   none-here : is_client item.kind ≡ false → length (offer_of item.due item.kind) ≡ 0
   none-here other = by item.kind other
@@ -280,7 +305,7 @@ module _ (leg : Leg) (s : Counts) (cursor : Cursor) (at : IsAt leg s cursor) (so
       by (Remove line) is = refl
 
   skip-at : (now : Cursor) → is_client item.kind ≡ false →
-      now ≡ record { item = i + 1; refusal = r; left = cursor.left } → IsAt leg s now
+      now ≡ record { item = i + 1; refusals = rest; left = cursor.left } → IsAt leg s now
   skip-at now other is =
       let parts = other-refusals leg s cursor at item there some other in
       let later = refusals_among leg
@@ -288,7 +313,7 @@ module _ (leg : Leg) (s : Counts) (cursor : Cursor) (at : IsAt leg s cursor) (so
       let both = found parts.0 later parts.1
       (late-refusals leg s cursor at item there some cursor.left (at.commands - 1)) in
       let none = none-here other in
-      subst (IsAt leg s) (sym (is ∙ ap (λ n. record { item = n + 1; refusal = r; left = cursor.left }) here))
+      subst (IsAt leg s) (sym (is ∙ ap (λ n. record { item = n + 1; refusals = rest; left = cursor.left }) here))
       (record {
         sound = at.sound;
         walked = at.walked;
@@ -299,17 +324,17 @@ module _ (leg : Leg) (s : Counts) (cursor : Cursor) (at : IsAt leg s cursor) (so
       })
 
   skip-past : (now : Cursor) → is_client item.kind ≡ false →
-      now ≡ record { item = i + 1; refusal = r; left = cursor.left } → IsSkipped leg cursor now
+      now ≡ record { item = i + 1; refusals = rest; left = cursor.left } → IsSkipped leg cursor now
   skip-past now other is =
       let before = before-next leg s cursor at item there some in
       subst (λ (now : Cursor). IsSkipped leg cursor now)
-      (sym (is ∙ ap (λ n. record { item = n + 1; refusal = r; left = cursor.left }) here)) (record {
+      (sym (is ∙ ap (λ n. record { item = n + 1; refusals = rest; left = cursor.left }) here)) (record {
         before = omega (arith, before, none-here other);
         rest = other-rest leg s cursor at item there some other;
       })
 
   pub skipped : (now : Cursor) → is_client item.kind ≡ false →
-      now ≡ record { item = i + 1; refusal = r; left = cursor.left } → IsAt leg s now × IsSkipped leg cursor now
+      now ≡ record { item = i + 1; refusals = rest; left = cursor.left } → IsAt leg s now × IsSkipped leg cursor now
   skipped now other is = (skip-at now other is, skip-past now other is)
 
 -- ---- the end
@@ -342,17 +367,6 @@ past-before leg s was now skipped past = record {
   none = skipped.rest ∙ past.none;
   late = λ j offer far there. past.late j offer (let before = skipped.before in omega (arith, before, far)) there;
 }
-
-pub get-refusal : (xs : List (ℕ × Refusal)) (k : ℕ) (x : ℕ × Refusal) → k < length xs →
-    ((d : ℕ × Refusal) → x ≡ get_or xs k d) → slice_get xs k ≡ Some x
-get-refusal [] k x low is = absurd (omega arith)
-get-refusal (y ∷ xs) zero x low is = ap Some (sym (is x))
-get-refusal (y ∷ xs) (suc k) x low is = get-refusal xs k x (omega (arith, low)) is
-
-pub no-frame : (kind : ItemKind) → ((octets : List ℕ) → kind ≡ Frame octets → ⊥) → is_client kind ≡ false
-no-frame (Frame octets) other = absurd (other octets refl)
-no-frame (Add line) other = refl
-no-frame (Remove line) other = refl
 
 -- ---- The stream of a walk is ruled frame by frame, and tick by tick.
 -- ---- a frame

@@ -1,16 +1,18 @@
 -- The client's items that have landed in a walk, one after another, as clauses say it.
 use Rattle.std.specs.Prelude.{◌≡◌, ℕ, ◌+◌, ◌-◌, ◌≤◌, List, [], ◌∷◌, length, take, drop, Some, slice_get}
 use Rattle.law_model.specs.Common.{Leg, offers_of, Counts, IsSound}
+use Rattle.law_model.specs.declared.item_refusals.Refusal.{Refusal}
 use Rattle.law_model.specs.declared.script_types.Item.{Item}
 use Rattle.law_model.specs.declared.script_types.ItemKind.TheVariants.{Frame}
-use Rattle.law_walk.specs.Common.{IsWalked, Numbered, landed_from, refusal_at, refusals_among, refusals_of}
+use Rattle.law_walk.specs.Common.{IsWalked, Numbered, landed_from, refusal_at, refusals_among}
 use Rattle.fate_walks.specs.walk_frames.StreamInTicks.{IsLate}
 use Rattle.fate_walks.specs.declared.walk_frames.landed_cursor.LandedFrame.{LandedFrame}
 
--- a place among the items of a leg: the next item, the next refusal, and how many frames from there on have landed
+-- a place among the items of a leg: the next item, the refusals from there on, and how many frames from there on have
+-- landed
 pub record Cursor : Type 0 where
   pub item : ℕ
-  pub refusal : ℕ
+  pub refusals : List (ℕ × Refusal)
   pub left : ℕ
 
 -- how many frames are among the items before a place
@@ -28,7 +30,7 @@ pub record IsAt (leg : Leg) (s : Counts) (cursor : Cursor) : Type 0 where
   pub commands : ℕ
   pub within : cursor.item ≤ length leg.items
   pub left : cursor.left ≡ s.frames - frames_before_item leg cursor.item
-  pub refusals : drop cursor.refusal (refusals_of leg s)
+  pub refusals : cursor.refusals
       ≡ refusals_among leg (landed_from cursor.left commands cursor.item (drop cursor.item leg.items))
 
 -- a frame that was found is the next one

@@ -1,12 +1,12 @@
 //! The client's items that have landed in a walk, one after another in item order, each with why it is
 //! refused where it is.
-ghost use Rattle.std.specs.Prelude.{◌≡◌, ℕ, ◌+◌, ◌<◌, List, ◌++◌, length, drop, All, Option, IfSome, IfNone};
+ghost use Rattle.std.specs.Prelude.{◌≡◌, ℕ, ◌+◌, ◌<◌, List, ◌++◌, length, All, Option, IfSome, IfNone};
 ghost use Rattle.law_model.specs.Common.{leg_of, IsSound};
 ghost use Rattle.law_model.specs.declared.item_refusals.Refusal.{Refusal as RefusalData};
 ghost use Rattle.law_walk.specs.Common.{IsWalked, refused_by};
 ghost use Rattle.fate_walks.specs.walk_frames.ItemCursor.{IsAt, IsNext, IsPast, IsSkipped};
 
-use law_model::{Item, ItemKind, Refusal};
+use law_model::{ItemSort, Refusal, Refusals};
 use std::marker::Model;
 use walk_engine::walk_core::Walk;
 
@@ -25,34 +25,45 @@ pub struct LandedFrame {
 
 /// A place among the items of a walk's script: those before it were passed.
 #[derive(Drop)]
-pub struct FrameCursor {
+pub struct FrameCursor<'a> {
     /// The next item.
-    item: usize,
-    /// The next refusal: those before it are of earlier items.
-    refusal: usize,
+    item: u32,
+    /// The next refusal, which is of no earlier item.
+    refused: Option<(u32, Refusal)>,
+    /// Those after it.
+    refusals: Refusals<'a>,
     /// How many frames from the next item on have landed.
     left: u32,
 }
 
-impl Model for FrameCursor {
+impl<'a> Model for FrameCursor<'a> {
+    ghost use Rattle.std.specs.Prelude.{◌≡◌, [], ◌++◌, option_to_list, IfNone};
     ghost use Rattle.fate_walks.specs.walk_frames.ItemCursor.{Cursor};
 
     ghost Value = { Cursor };
 
-    ghost view = { λ c. record { item = c.item; refusal = c.refusal; left = c.left } };
+    ghost view = { λ c. record {
+      item = c.item;
+      refusals = option_to_list c.refused ++ c.refusals;
+      left = c.left;
+    } };
+
+    ghost invariant = { λ c. IfNone c.refused (c.refusals ≡ []) };
 }
 
-impl FrameCursor {
+impl<'a> FrameCursor<'a> {
     /// Before the first item.
-    pub fn new(walk: &Walk) -> FrameCursor
+    pub fn new(walk: &'a Walk) -> FrameCursor<'a>
         requires sound { IsSound (leg_of walk.now.script) }
         requires walked { IsWalked (leg_of walk.now.script) walk.now.counts }
         ensures at { IsAt (leg_of walk.now.script) walk.now.counts result }
         ensures first { result.item ≡ 0 }
     {
+        let mut refusals = walk.refusals();
         FrameCursor {
             item: 0,
-            refusal: 0,
+            refused: refusals.next(),
+            refusals,
             left: walk.landed_frames(),
         }
     }
@@ -64,7 +75,7 @@ impl FrameCursor {
         ensures some { IfSome result (IsNext (leg_of walk.now.script) self.old self.new) }
         ensures none { IfNone result (IsPast (leg_of walk.now.script) walk.now.counts self.old) }
     {
-        while self.left > 0 && self.item < items_of(walk).len() {
+        while self.left > 0 && self.item < walk.script().items.len() {
             if let Some(frame) = self.pass(walk) {
                 return Some(frame);
             }
@@ -82,17 +93,17 @@ impl FrameCursor {
         ensures skipped { IfNone result (IsSkipped (leg_of walk.now.script) self.old self.new) }
         ensures item { self.new.item ≡ self.old.item + 1 }
     {
-        let i = self.item;
-        let item = &items_of(walk)[i];
-        let refusal = self.take_refusal(i as u32, walk.refusals());
-        self.item = i + 1;
-        match &item.kind {
-            ItemKind::Frame(octets) => {
+        let number = self.item;
+        let head = walk.script().items.head(number);
+        let refusal = self.take_refusal(number);
+        self.item = number + 1;
+        match head.sort {
+            ItemSort::Frame(length) => {
                 self.left -= 1;
                 Some(LandedFrame {
-                    number: i as u32,
-                    due: item.due,
-                    length: octets.0.len() as u16,
+                    number,
+                    due: head.due,
+                    length,
                     refusal,
                 })
             }
@@ -101,27 +112,20 @@ impl FrameCursor {
     }
 
     /// Why an item is refused, where it is the next refusal's.
-    fn take_refusal(&mut self, item: u32, refusals: &[(u32, Refusal)]) -> Option<Refusal>
+    fn take_refusal(&mut self, item: u32) -> Option<Refusal>
         ensures finds { (why : Option RefusalData) (later : List (ℕ × RefusalData)) →
-            drop self.old.refusal refusals.now ≡ refused_by item why ++ later →
+            self.old.refusals ≡ refused_by item why ++ later →
             All (λ (refused : ℕ × RefusalData). item < refused.0) later →
-            (result ≡ why) × (drop self.new.refusal refusals.now ≡ later) }
+            (result ≡ why) × (self.new.refusals ≡ later) }
         ensures item { self.new.item ≡ self.old.item }
         ensures left { self.new.left ≡ self.old.left }
     {
-        match refusals.get(self.refusal) {
-            Some((number, why)) if *number == item => {
-                self.refusal += 1;
-                Some(*why)
+        match self.refused {
+            Some((number, why)) if number == item => {
+                self.refused = self.refusals.next();
+                Some(why)
             }
             _ => None,
         }
     }
-}
-
-/// The items of a walk's script.
-fn items_of(walk: &Walk) -> &[Item]
-    ensures { result.now ≡ walk.now.script.items }
-{
-    walk.script().items.0.as_slice()
 }

@@ -10,21 +10,21 @@ use Rattle.fate_walks.proofs.walk_fates.frame_places.place_frames.Goals as goal
 
 pub loop-frame-init : goal.loop-frame-init
 loop-frame-init c =
-    ruled-first (leg_of c.args.walk.now.script) c.args.walk.now.counts c.new-ruler.result c.new-cursor.result
-    c.new-cursor.ensures.at c.new-cursor.ensures.first c.new-ruler.ensures
+    ruled-first (leg_of c.args.walk.now.script) c.args.walk.now.counts c.in_ok-ruler.ruler c.new-cursor.result
+    c.new-cursor.ensures.at c.new-cursor.ensures.first c.in_ok-ruler.ensures
 
 pub reach_ticks-requires-clause-order : goal.reach_ticks-requires-clause-order
 reach_ticks-requires-clause-order c =
     next-due (leg_of c.args.walk.now.script) c.args.walk.now.counts c.loop-frame.ruler c.loop-frame.cursor
     c.next_before.new.cursor c.loop-frame.ticks c.in-Some.frame c.loop-frame.invariant c.in-Some.ensures.some
 
-pub loop-frame-smaller-in-Continue-1 : goal.loop-frame-smaller-in-Continue-1
-loop-frame-smaller-in-Continue-1 c =
+pub loop-frame-smaller-in-Continue-branch-2 : goal.loop-frame-smaller-in-Continue-branch-2
+loop-frame-smaller-in-Continue-branch-2 c =
     next-fewer (leg_of c.args.walk.now.script) c.args.walk.now.counts c.loop-frame.ruler c.loop-frame.cursor
     c.next_before.new.cursor c.loop-frame.ticks c.in-Some.frame c.loop-frame.invariant c.in-Some.ensures.some
 
-pub loop-frame-preserved-in-Continue-1 : goal.loop-frame-preserved-in-Continue-1
-loop-frame-preserved-in-Continue-1 c =
+pub loop-frame-preserved-in-Continue-branch-2 : goal.loop-frame-preserved-in-Continue-branch-2
+loop-frame-preserved-in-Continue-branch-2 c =
     ruled-accepted (leg_of c.args.walk.now.script) c.args.walk.now.counts c.loop-frame.ruler c.loop-frame.cursor
     c.next_before.new.cursor c.loop-frame.ticks c.in-Some.frame c.loop-frame.invariant c.in-Some.ensures.some
     c.next_before.ensures.at c.in-Some.ensures.before c.reach_ticks.new.ruler c.reach_ticks.ensures c.accept.new.self
