@@ -11,8 +11,9 @@ use crate::command_of_words::WalkCommand;
 use crate::turns::fate_turns::see_script;
 use command_parts::{Ran, Stop};
 use fate_walks::walk_gfp::write_gfp;
+use law_model::FrameRoom;
 use octet_io::{ByteSink, ByteSource};
-use std::alloc::Global;
+use std::alloc::{AllocError, Global};
 use walk_engine::walk_core::Walk;
 
 /// The words `gfp`.
@@ -44,7 +45,11 @@ pub fn gfp<S: ByteSource, K: ByteSink>(
         Ok(watched) => watched,
         Err(stop) => return Err(stop),
     };
-    let written = write_gfp(&watched.walk, &watched.seen, out);
+    let mut room = match FrameRoom::new(alloc) {
+        Ok(room) => room,
+        Err(AllocError) => return Err(Stop::Memory),
+    };
+    let written = write_gfp(&watched.walk, &watched.seen, &mut room, out);
     Ok(Ran {
         made: Some(watched.walk),
         written,

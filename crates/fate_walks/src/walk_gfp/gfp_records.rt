@@ -1,5 +1,5 @@
 //! The records of a capture of GFP frames, frame by frame.
-ghost use Rattle.std.specs.Prelude.{◌≡◌, ◌≤◌, ℕ, List, [], ◌++◌, length, Some, slice_get, OnOk, OnErr};
+ghost use Rattle.std.specs.Prelude.{◌≡◌, ◌<◌, ◌≤◌, ℕ, List, [], ◌++◌, length, Some, slice_get, OnOk, OnErr};
 ghost use Rattle.law_model.specs.Common.{Start, Appends, AppendsPart, leg_of, longest_frame};
 ghost use Rattle.law_model.specs.declared.script_types.Item.{Item as ItemData};
 ghost use Rattle.law_model.specs.declared.script_types.ItemKind.TheVariants.{Frame};
@@ -13,7 +13,7 @@ ghost use Rattle.fate_walks.specs.walk_gfp.LastRowOfFrame.{last_row, frame_if};
 use crate::walk_fates::{SeenWalk, accepted_fate};
 use crate::walk_frames::FrameCursor;
 use fate_engine::fate_core::Fate;
-use law_model::ItemKind;
+use law_model::{FrameRoom, ItemKind, Lent};
 use octet_io::{ByteSink, Failed, take_back};
 use text_captures::capture_file::GfpOut;
 use walk_engine::walk_core::Walk;
@@ -32,18 +32,19 @@ fn last_row(fate: Fate) -> Option<u32>
     }
 }
 
-/// The octets of a client item of a walk's script.
-fn octets_of(walk: &Walk, number: u32) -> &[u8]
+/// The octets of a client item of a walk's script. They lie in the room if they were drawn.
+fn octets_of<'a>(walk: &'a Walk, number: u32, room: &'a mut FrameRoom) -> &'a [u8]
+    requires { number < length walk.now.script.items }
     ensures { (item : ItemData) (octets : List ℕ) →
         slice_get walk.now.script.items number ≡ Some item → item.kind ≡ Frame octets →
         result.now ≡ octets }
 {
-    match walk.script().items.0.get(number as usize) {
-        Some(item) => match &item.kind {
+    match walk.script().items.lend(number, room) {
+        Lent::Kept(kind) => match kind {
             ItemKind::Frame(octets) => octets.0.as_slice(),
             ItemKind::Add(_) | ItemKind::Remove(_) => &[],
         },
-        None => &[],
+        Lent::Drawn => room.octets(),
     }
 }
 
@@ -69,7 +70,12 @@ fn write_accepted<K: ByteSink>(
 }
 
 /// Writes the records of all of them.
-fn write_records<K: ByteSink>(walk: &Walk, seen: &SeenWalk, out: &mut GfpOut<K>)
+fn write_records<K: ByteSink>(
+    walk: &Walk,
+    seen: &SeenWalk,
+    room: &mut FrameRoom,
+    out: &mut GfpOut<K>,
+)
     requires { SeesWalk (leg_of walk.now.script) walk.now.counts seen.now }
     ensures { (start : Start) → HasGfp K.written K.faults out.old start [] →
         HasGfp K.written K.faults out.new start
@@ -80,15 +86,21 @@ fn write_records<K: ByteSink>(walk: &Walk, seen: &SeenWalk, out: &mut GfpOut<K>)
     let mut cursor = FrameCursor::new(walk);
     while let Some(frame) = cursor.next(walk) {
         if frame.refusal.is_none() {
-            let octets = octets_of(walk, frame.number);
+            let octets = octets_of(walk, frame.number, room);
             write_accepted(accepted, octets, walk, seen, out);
             accepted += 1;
         }
     }
 }
 
-/// Writes the capture of the GFP frames that the taken rows of a walk carry.
-pub fn write_gfp<K: ByteSink>(walk: &Walk, seen: &SeenWalk, out: &mut K) -> Result<(), Failed>
+/// Writes the capture of the GFP frames that the taken rows of a walk carry. A frame that isn't kept is drawn into
+/// the room.
+pub fn write_gfp<K: ByteSink>(
+    walk: &Walk,
+    seen: &SeenWalk,
+    room: &mut FrameRoom,
+    out: &mut K,
+) -> Result<(), Failed>
     requires { SeesWalk (leg_of walk.now.script) walk.now.counts seen.now }
     ensures ok { OnOk result (Appends K.written K.faults out.old out.new
         (sent_capture (leg_of walk.now.script) walk.now.counts)) }
@@ -96,7 +108,7 @@ pub fn write_gfp<K: ByteSink>(walk: &Walk, seen: &SeenWalk, out: &mut K) -> Resu
         (sent_capture (leg_of walk.now.script) walk.now.counts)) }
 {
     let mut gfp = GfpOut::new(out);
-    write_records(walk, seen, &mut gfp);
+    write_records(walk, seen, room, &mut gfp);
     let (back, end) = gfp.finish();
     take_back(back);
     end

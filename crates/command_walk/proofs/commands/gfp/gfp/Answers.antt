@@ -16,6 +16,10 @@ returns-in-Err g c = record {
   nothing = refl;
 }
 
+pub returns-in-Err-new : goal.returns-in-Err-new
+returns-in-Err-new g c =
+    record { ran = tt; stopped = c.in-Ok.ensures.script.read.quiet; nothing = refl }
+
 pub returns : goal.returns
 returns g c =
     script-written _ _ _ _ (λ (script : Script). sent_capture (leg_of script) (counts_in script)) _
