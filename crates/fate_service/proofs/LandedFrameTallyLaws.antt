@@ -14,7 +14,7 @@ use Rattle.fate_service.specs.Stretches.{delay_of, with_carried, higher, peak_on
 use Rattle.fate_service.specs.Stretches.{ended_of as ended_in_stretch}
 use Rattle.std.proofs.lemmas.List.{map-append, length-map}
 use Rattle.std.proofs.lemmas.List.Concat.{flat_map-append}
-use Rattle.law_model.specs.Common.{Leg, Counts, IsItem, IsSound, most_ticks}
+use Rattle.law_model.specs.Common.{Leg, Counts, IsItem, IsSound, most_items, most_ticks}
 use Rattle.law_model.specs.declared.item_refusals.Refusal.{Refusal}
 use Rattle.fate_engine.specs.Common.{End, refused, accepted, Ended as EndedItem, ended_on, ended_of, has_waited}
 use Rattle.fate_engine.specs.Common.{ended_by, ended_then, truth_text, fates_end, are_true_marks}
@@ -202,7 +202,7 @@ taken-next leg s was now old new done found next small come at takes =
     }
 
 pub taken-few : (leg : Leg) (s : Counts) (cursor : Cursor) (landed : LandedFrames) (done : List EndedItem) →
-    FramesTaken leg s cursor landed done → length done ≤ 67108864
+    FramesTaken leg s cursor landed done → length done ≤ most_items
 taken-few leg s cursor landed done come =
     let offers = offers-few (take cursor.item leg.items) in
     omega (arith, come.size, offers, length-take cursor.item leg.items, come.at.sound.few)
@@ -274,20 +274,20 @@ on-few leg fate (item ∷ items) i =
     then-few fate item (refusal_at leg item) item.item.kind i (length items) (ended_on leg fate items)
     (λ m. on-few leg fate items m)
 
-pub ended-few : (leg : Leg) (s : Counts) → IsSound leg → length (ended_of leg s) ≤ 67108864
+pub ended-few : (leg : Leg) (s : Counts) → IsSound leg → length (ended_of leg s) ≤ most_items
 ended-few leg s sound =
     let all = on-few leg (fates_in leg s.rows) (landed_items leg s) 0 in
     omega (arith, all, landed-few s.frames s.commands 0 leg.items, sound.few)
 
 module _ (leg : Leg) (s : Counts) (landed : LandedFrames) (sound : IsSound leg) (are : AreLanded (ended_of leg s) landed) where
-  pub offered-count : length landed.offered.items ≤ 67108864
+  pub offered-count : length landed.offered.items ≤ most_items
   offered-count =
       omega (arith, ap length are.offered, length-map (ended_of leg s) offered_frame, ended-few leg s sound)
 
-  pub accepted-count : length landed.accepted.items ≤ 67108864
+  pub accepted-count : length landed.accepted.items ≤ most_items
   accepted-count = omega (arith, landed-accepted-few (ended_of leg s) landed are, ended-few leg s sound)
 
-  pub carried-count : length landed.carried.items ≤ 67108864
+  pub carried-count : length landed.carried.items ≤ most_items
   carried-count = omega (arith, ap length are.carried, carried-few (ended_of leg s), ended-few leg s sound)
 
 -- ---- how late they are

@@ -1,7 +1,7 @@
 //! The client's frames that have landed in a walk, in the columns that the sums need.
 ghost use Rattle.std.specs.Prelude.{◌≡◌, ◌+◌, ◌^◌, ◌<◌, ◌≤◌, [], ◌∷◌, ◌++◌, length, OnOk, IfOk, is_none};
 ghost use Rattle.std.specs.Prelude.{option_to_list};
-ghost use Rattle.law_model.specs.Common.{leg_of};
+ghost use Rattle.law_model.specs.Common.{leg_of, most_items};
 ghost use Rattle.fate_engine.specs.Common.{accepted, does_wait, ended_of};
 ghost use Rattle.fate_walks.specs.walk_fates.MadeWalk.{SeesWalk, fates_in, end_by};
 ghost use Rattle.fate_service.specs.FrameColumns.{no_frames, with_frame, with_frame_if, carried_by, carried_if};
@@ -38,12 +38,12 @@ pub struct OfferedFrame {
 pub struct CarriedFrame {
     /// The number of ticks after which it landed.
     pub due: u32,
-    /// Its octets.
-    pub octets: u16,
     /// The row that decides: the first of its rows that isn't whole where it is cut, and else its first one.
     pub at: u32,
     /// The row of its last octet.
     pub last: u32,
+    /// Its octets.
+    pub octets: u16,
     /// It was got.
     pub got: bool,
 }
@@ -114,24 +114,24 @@ fn carried(due: u32, octets: u16, at: u32, last: u32, got: bool) -> Option<Carri
 {
     Some(CarriedFrame {
         due,
-        octets,
         at,
         last,
+        octets,
         got,
     })
 }
 
 impl LandedFrames {
-    /// Before the first frame.
-    fn new(alloc: Global) -> LandedFrames
-        ensures { AreLanded [] result }
+    /// Before the first frame, with room for so many, of which so many are accepted.
+    fn new(alloc: Global, offered: u32, accepted: u32) -> Result<LandedFrames, AllocError>
+        ensures { IfOk result (AreLanded []) }
     {
-        LandedFrames {
-            offered: Vec::new(alloc),
-            accepted: Vec::new(alloc),
-            carried: Vec::new(alloc),
+        Ok(LandedFrames {
+            offered: Vec::with_capacity(alloc, offered as usize)?,
+            accepted: Vec::with_capacity(alloc, accepted as usize)?,
+            carried: Vec::with_capacity(alloc, accepted as usize)?,
             waits: Tally::none(),
-        }
+        })
     }
 
     /// Takes an accepted frame with this fate.
@@ -204,9 +204,9 @@ pub(crate) fn land_frames(
 ) -> Result<LandedFrames, AllocError>
     requires { SeesWalk (leg_of walk.now.script) walk.now.counts seen.now }
     ensures landed { IfOk result (AreLanded (ended_of (leg_of walk.now.script) walk.now.counts)) }
-    ensures few { IfOk result (λ landed. length landed.offered.items ≤ 67108864) }
+    ensures few { IfOk result (λ landed. length landed.offered.items ≤ most_items) }
 {
-    let mut landed = LandedFrames::new(alloc);
+    let mut landed = LandedFrames::new(alloc, walk.landed_frames(), walk.totals().frames)?;
     let mut cursor = FrameCursor::new(walk);
     while let Some(frame) = cursor.next(walk) {
         take_frame(&mut landed, frame, walk, seen)?;

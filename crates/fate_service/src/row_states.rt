@@ -58,8 +58,9 @@ pub(crate) fn row_states(alloc: Global, seen: &SeenWalk) -> Result<Vec<RowState>
     ensures { (leg : Leg) (s : Counts) → SeesWalk leg s seen.now →
         IfOk result (λ states. states.items ≡ states_of (session_rows leg s.rows)) }
 {
-    let mut states = Vec::new(alloc);
-    for row in 0..seen.rows.segments.rows() {
+    let rows = seen.rows.segments.rows();
+    let mut states = Vec::with_capacity(alloc, rows as usize)?;
+    for row in 0..rows {
         states.push(row_state(seen, row))?;
     }
     Ok(states)

@@ -1,5 +1,5 @@
 //! The places at which the pieces of accepted frames begin and end, by lengths alone.
-ghost use Rattle.std.specs.Prelude.{◌≡◌, ◌+◌, ◌^◌, ◌==◌, ◌||◌, ◌<◌, [], length, OnOk, OnErr, slice_get, IfSome};
+ghost use Rattle.std.specs.Prelude.{◌≡◌, ◌+◌, ◌^◌, ◌==◌, ◌||◌, ◌<◌, [], length, OnOk, OnErr, slice_get, IfOk, IfSome};
 ghost use Rattle.law_model.specs.Common.{Stream};
 ghost use Rattle.fate_engine.specs.fate_law.Ruler.{new_ruler, ruler_of, ruled, with_waiting};
 ghost use Rattle.fate_engine.specs.fate_law.Marks.{is_piece_at};
@@ -47,15 +47,15 @@ impl Model for Ruler {
 }
 
 impl Ruler {
-    /// That of a stream of which nothing but the two idles at its start is made.
-    pub fn new(alloc: Global) -> Ruler
-        ensures { result ≡ new_ruler }
+    /// That of a stream of which nothing but the two idles at its start is made, with room for so many frames.
+    pub fn new(alloc: Global, frames: u32) -> Result<Ruler, AllocError>
+        ensures { IfOk result (λ ruler. ruler ≡ new_ruler) }
     {
-        Ruler {
-            frames: Vec::new(alloc),
+        Ok(Ruler {
+            frames: Vec::with_capacity(alloc, frames as usize)?,
             begun: 0,
             end: 2 * IDLE,
-        }
+        })
     }
 
     /// Takes an accepted frame of so many octets. Where memory is short nothing changes.

@@ -64,17 +64,17 @@ pub fn place_frames(alloc: Global, walk: &Walk, packets: &Packets) -> Result<Rul
     requires packets { Governs (leg_of walk.now.script) walk.now.counts.ticks packets.now }
     ensures { IfOk result (Rules (leg_of walk.now.script) walk.now.counts.ticks) }
 {
-    let made = walk.totals().ticks;
-    let mut ruler = Ruler::new(alloc);
+    let totals = walk.totals();
+    let mut ruler = Ruler::new(alloc, totals.frames)?;
     let mut cursor = FrameCursor::new(walk);
     let mut ticks = 0;
-    while let Some(frame) = next_before(&mut cursor, walk, made) {
+    while let Some(frame) = next_before(&mut cursor, walk, totals.ticks) {
         reach_ticks(&mut ruler, walk, packets, ticks, frame.due);
         ticks = frame.due;
         if frame.refusal.is_none() {
             ruler.accept(frame.length)?;
         }
     }
-    reach_ticks(&mut ruler, walk, packets, ticks, made);
+    reach_ticks(&mut ruler, walk, packets, ticks, totals.ticks);
     Ok(ruler)
 }

@@ -13,8 +13,8 @@ use Rattle.fate_service.proofs.landed_frames.land_frames.Goals as goal
 pub loop-frame-init : goal.loop-frame-init
 loop-frame-init c = (
   [],
-  taken-begun (leg_of c.args.walk.now.script) c.args.walk.now.counts c.new-cursor.result c.new-landed.result
-      c.new-cursor.ensures.at c.new-cursor.ensures.first c.new-landed.ensures,
+  taken-begun (leg_of c.args.walk.now.script) c.args.walk.now.counts c.new-cursor.result c.in_ok-landed.landed
+      c.new-cursor.ensures.at c.new-cursor.ensures.first c.in_ok-landed.ensures,
 )
 
 pub take_frame-requires : goal.take_frame-requires

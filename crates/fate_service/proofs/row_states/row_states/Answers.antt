@@ -14,7 +14,7 @@ loop-row-preserved c = λ leg s sees.
     let row = c.loop-row.row in
     let size = rows-count (scenario_by leg) (session_of leg) s.rows in
     let test = c.loop-row-test.true in
-    let low : row < s.rows = omega (arith, size, sees.rows.segments.count, c.rows-row-end.ensures, test) in
+    let low : row < s.rows = omega (arith, size, sees.rows.segments.count, c.rows-rows.ensures, test) in
     c.in_ok-push.ensures.items
     ∙ ap₂ (λ l state. l ++ state ∷ []) (c.loop-row.invariant leg s sees) (c.row_state.ensures leg s sees low)
     ∙ ap (λ k. map (state_of rows) (range_with_len 0 row) ++ state_of rows k ∷ []) (let e : row ≡ 0 + row = omega arith in e)

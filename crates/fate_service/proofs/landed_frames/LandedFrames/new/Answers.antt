@@ -5,8 +5,8 @@ use Rattle.fate_service.proofs.landed_frames.LandedFrames.new.Goals as goal
 pub returns : goal.returns
 unfolding waits_on
 returns c = record {
-  offered = c.new.ensures.items;
-  accepted = c.new-2.ensures.items;
-  carried = c.new-3.ensures.items;
+  offered = c.in_ok-with_capacity.ensures.items;
+  accepted = c.in_ok-with_capacity-2.ensures.items;
+  carried = c.in_ok-with_capacity-3.ensures.items;
   waits = c.none.ensures;
 }

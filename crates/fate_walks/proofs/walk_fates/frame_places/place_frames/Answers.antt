@@ -45,7 +45,7 @@ loop-frame-preserved c =
 pub returns : goal.returns
 returns c =
     let s = c.args.walk.now.counts in
-    let ticks : c.totals-made.result.ticks ≡ s.ticks = ap (λ (totals : Totals). totals.ticks) c.totals-made.ensures in
+    let ticks : c.totals-totals.result.ticks ≡ s.ticks = ap (λ (totals : Totals). totals.ticks) c.totals-totals.ensures in
     let late = rw c.in_default.is at c.next_before.ensures.none in
     ruled-end (leg_of c.args.walk.now.script) s c.loop-frame.ruler c.loop-frame.cursor c.loop-frame.ticks
     c.reach_ticks-2.new.ruler c.loop-frame.invariant late
