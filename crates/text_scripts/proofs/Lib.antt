@@ -5,3 +5,4 @@ pub mod ScriptLineAndFirstFaultLaws
 pub mod StatementAndWordFaultLaws
 pub mod StreamItemLaws
 pub mod StreamWordLaws
+pub mod WrittenStreamLaws

@@ -57,7 +57,7 @@ octets_below octets state =
     (check_below (content_of octets state))
 
 -- ---- the items
-frame_item : (rate : Rate) (ticks k : ℕ) → IsRate rate → rate.end ≤ ticks → k < count_of rate →
+pub frame_item : (rate : Rate) (ticks k : ℕ) → IsRate rate → rate.end ≤ ticks → k < count_of rate →
     IsItem ticks (stream_item (frame_at rate k))
 frame_item rate ticks k is within inside =
     let early = (due_before rate k is).0 inside in
@@ -107,7 +107,7 @@ due_there rate i d within =
     ∙ ap (λ (frame : RateFrame). frame.due) (frame_there rate i some within)
 
 -- the due ticks never fall
-due_later : (rate : Rate) (i j : ℕ) → IsRate rate → i ≤ j → j < count_of rate → due_of rate i ≤ due_of rate j
+pub due_later : (rate : Rate) (i j : ℕ) → IsRate rate → i ≤ j → j < count_of rate → due_of rate i ≤ due_of rate j
 due_later rate i j is before within =
     let some : RateFrame = frame_at rate 0 in
     let size = length-frames rate in

@@ -3,3 +3,4 @@ pub mod Script
 pub mod ScriptInPieces
 pub mod Drafts
 pub mod Lifted
+pub mod Written

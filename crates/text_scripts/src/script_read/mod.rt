@@ -3,7 +3,8 @@
 //! it adds to the lines before it; the reader gives just that, in one pass. Every script that it gives meets
 //! `IsValid`. A fault stays, whatever follows. Nothing is run here, and no text is written. Begin with
 //! `ScriptReader`, which takes a text in pieces; `read_script` reads one that is whole. `fault_law` says which
-//! texts are scripts, and `valid_law` that such a text says a script that can be walked.
+//! texts are scripts, `stream_law` that a stream says what the lines of its frames do, and `valid_law` that a text that
+//! is a script says one that can be walked.
 
 mod grow_draft;
 mod item_words;
@@ -22,7 +23,7 @@ mod word_count_fault;
 
 pub use script_fault::{LineFault, ScriptFault, SizesFault};
 pub use script_keyword::{Keyword, Part};
-pub use script_laws::{fault_law, valid_law};
+pub use script_laws::{fault_law, stream_law, valid_law};
 pub use script_limits::limit_fault;
 pub use script_reader::ScriptReader;
 pub use whole_script::read_script;

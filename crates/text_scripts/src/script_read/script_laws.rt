@@ -8,6 +8,7 @@ ghost use Rattle.text_scripts.specs.declared.script_read.script_fault.LineFault.
 ghost use Rattle.text_scripts.specs.declared.script_read.script_fault.ScriptFault.TheVariants.{Line};
 ghost use Rattle.text_scripts.specs.script_read.Statements.{at_first};
 ghost use Rattle.text_scripts.specs.script_read.Script.{script_of, script_lines, IsScriptOf};
+ghost use Rattle.text_scripts.specs.script_read.Written.{all_written};
 
 /// A text has the fault of a line exactly where that line is faulty after lines none of which is, or where no
 /// line is faulty and the configuration isn't whole at the end. It is a script exactly where no line is
@@ -18,6 +19,14 @@ pub fn fault_law()
         ↔ IsFirstFault script_lines 1 at_first (lines text) number fault }
     ensures script { (text : List ℕ) (script : Script) →
         (script_of text ≡ Ok script) ↔ IsScriptOf (lines text) script }
+{}
+
+/// A text whose lines are those of a script with each stream written out, as the lines that the command `stream` of its
+/// words writes, is the same script, however long the texts are.
+pub fn stream_law()
+    ensures same { (text other : List ℕ) (script : Script) →
+        lines other ≡ all_written (lines text) →
+        script_of text ≡ Ok script → script_of other ≡ Ok script }
 {}
 
 /// A text that is a script, however long, says one that can be walked: its numbers are in their ranges, its windows
