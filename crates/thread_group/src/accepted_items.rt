@@ -25,6 +25,9 @@ impl Model for Accepted {
     ghost also_owns = { λ _. ftrue };
 }
 
+// They own nothing, so a group may go to another thread with them.
+unsafe impl Send for Accepted {}
+
 impl Accepted {
     ghost use Rattle.terminal_group.specs.Item.{kind_of};
     ghost use Rattle.thread_group.specs.Journal.{entry_of};
