@@ -1,5 +1,5 @@
 -- Lines, group and sink as they are opened: a group begins bound to its script, with room for all items.
-use Rattle.std.proofs.Common.{◌≡◌, inl, inr, ℕ, zero, suc, ◌+◌, List, [], ◌∷◌, ◌++◌, length, slice_get, Some, None}
+use Rattle.std.proofs.Common.{◌≡◌, inl, inr, ℕ, zero, suc, ◌+◌, ◌*◌, List, [], ◌∷◌, ◌++◌, length, slice_get, Some, None}
 use Rattle.std.proofs.Common.{refl, sym, ◌∙◌, ap, subst, arith, length-append, IfOk, Result, Ok, Err, ◌≤◌, true, false}
 use Rattle.std.proofs.Common.{if◌then◌else◌, take, drop, ◌^◌, ◌<◌, slice_index_or, sum_by, All, append-nil, ◌==◌}
 use Rattle.std.proofs.Common.{Option, Bool, not, ◌↔◌}
@@ -166,7 +166,7 @@ module _ (script : Script) (g : GroupState) (of_script : IsOf (leg_of script) g)
       let none : used_in (lag_of g) (ticks_of g) ≡ 0 = omega (arith, ticks) in
       ap (λ n. take n (told_from (lost_of g) (in_passed g.back))) none
 
-  pub room-begins : group_slots_of g ≡ length script.items → bytes_of g ≡ octets_in (offers_of script.items) →
+  pub room-begins : group_slots_of g ≡ length script.items → octets_in (offers_of script.items) ≤ bytes_of g →
       HasJournalRoom (leg_of script) g
   room-begins slots bytes =
       let all = all-kinds script.items in
@@ -220,7 +220,7 @@ module _ (script : Script) (g : GroupState) (of_script : IsOf (leg_of script) g)
 module _ {E : Type 0} (script : Script) (valid : IsValid script) where
   pub group-opened : (entries bytes : ℕ) (tx : Vec (OutEnd Container)) (back : InEnd BackCell)
       (r : Result GroupState E) → entries ≡ length script.items →
-      bytes ≡ octets_in (offers_of script.items) → AreUnused tx.items →
+      octets_in (offers_of script.items) ≤ bytes → AreUnused tx.items →
       IfOk r (λ g. IsOf (leg_of script) g) → IfOk r (λ g. ticks_of g ≡ 0) →
       IfOk r (λ g. (frames_of g ≡ 0) × (commands_of g ≡ 0)) → IfOk r (λ g. journal_of g ≡ []) →
       IfOk r (λ g. (group_slots_of g ≡ entries) × (bytes_of g ≡ bytes)) → IfOk r (λ g. refusals_of g ≡ []) →
@@ -230,7 +230,7 @@ module _ {E : Type 0} (script : Script) (valid : IsValid script) where
       IfOk r (λ g. IsBound (leg_of script) g.tx.items (g.back ∷ []) g)
   group-opened entries bytes tx back (Ok g) count size unused of_script ticks landed journal room refusals ends made =
       bound-begins script g of_script ticks landed.0 landed.1 journal
-      (room-begins script g of_script ticks landed.0 landed.1 journal (room.0 ∙ count) (room.1 ∙ size))
+      (room-begins script g of_script ticks landed.0 landed.1 journal (room.0 ∙ count) (omega (arith, size, room.1)))
       (landed-begins script g of_script ticks landed.0 landed.1 journal refusals
       (subst (λ (v : Vec (OutEnd Container)). AreUnused v.items) (sym ends.0) unused)
       valid.sound.network.windows_each made)
@@ -258,7 +258,7 @@ module _ {E : Type 0} (script : Script) (valid : IsValid script) where
 abbrev pub own_octets : Item → ℕ
 own_octets item = octets_in (offers_of (item ∷ []))
 
-pub octets-sum : (items : List Item) → octets_in (offers_of items) ≡ sum_by own_octets items
+octets-sum : (items : List Item) → octets_in (offers_of items) ≡ sum_by own_octets items
 octets-sum [] = refl
 octets-sum (item ∷ items) =
     let one : octets_in (offers_of (item ∷ [])) ≡ octets_in (offer_of item.due item.kind) =
@@ -274,9 +274,10 @@ own-few item is = by_kind item.due item.kind is where
   by_kind due (Add line) is = omega arith
   by_kind due (Remove line) is = omega arith
 
-pub octets-few : (items : List Item) → length items ≤ 67108864 → All (λ (item : Item). IsKind item.kind) items →
-    sum_by own_octets items < 2 ^ 64
-octets-few items few each =
+pub octets-few : (items : List Item) → All (λ (item : Item). IsKind item.kind) items →
+    octets_in (offers_of items) ≤ longest_offer * length items
+octets-few items each =
+    let sum = octets-sum items in
     let most = sum_by-le own_octets longest_offer items (λ k d inside. own-few (slice_index_or items k d) (each k d inside)) in
     omega arith
 

@@ -3,7 +3,7 @@ use Rattle.std.proofs.Common.{◌≡◌, ℕ, zero, suc, ◌+◌, ◌-◌, ◌<�
 use Rattle.std.proofs.Common.{slice_index_or, refl, ap, subst, inl, inr}
 use Rattle.std.proofs.lemmas.Bool.{cases_lt}
 use Rattle.law_model.specs.Common.{Container, LinePath, LineCounts, Counts, Plan, FitsRing, greatest, greatest_slip}
-use Rattle.law_model.specs.Common.{path_of, plan_of, slip_of}
+use Rattle.law_model.specs.Common.{in_receive, path_of, plan_of, slip_of}
 use Rattle.law_model.specs.session.Plan.{least, least_or, paths_of}
 use Rattle.law_model.specs.members.Damage.{carried}
 use Rattle.law_model.specs.declared.window_types.Window.{Window}
@@ -15,7 +15,7 @@ use Rattle.law_progress.proofs.EventBoundAndStallCauseLaws.{each-at}
 use Rattle.law_progress.proofs.LinePathInNumbersLaws.{can_run-plan, is_path, least-first}
 use Rattle.law_progress.proofs.RoundProgressAndDrainLaws.{reached-fits}
 use Rattle.thread_session.specs.session_parts.LinesOpened.{slots_of}
-use Rattle.thread_session.specs.session_parts.ShortRings.{IsAt, IsFullAt, IsWaitedFor}
+use Rattle.thread_session.specs.session_parts.ShortRings.{IsLineAt, IsWaitedFor}
 
 -- no delay is less than the least
 least-or-at : (n : ℕ) (ns : List ℕ) (m : ℕ) → m < length ns → least_or n ns ≤ slice_index_or ns m 0
@@ -72,11 +72,12 @@ line-of total (windows ∷ lists) (delay ∷ delays) (containers ∷ sent) (suc 
     }
 
 -- ---- two lines, in numbers
-past : (total slip other_slip ring slots ticks rows : ℕ) (a b : LinePath) (waits full : LineCounts) →
-    IsPath total slip a → IsPath total other_slip b → 0 < slots → a.delay + slip + 1 ≤ b.delay + slots →
-    LineFits total ring ticks rows a waits → LineFits total ring ticks rows b full → rows < total →
-    ticks ≤ waits.carried → a.decided (a.given waits.carried) ≤ rows → b.given full.carried ≡ full.popped + slots → ticks ≤ full.carried
-past total slip other_slip ring slots ticks rows a b waits full path other some wide fits_a fits_b left all undecided at =
+past : (total slip other_slip ring ticks rows : ℕ) (a b : LinePath) (waits other : LineCounts) →
+    IsPath total slip a → IsPath total other_slip b → LineFits total ring ticks rows a waits →
+    LineFits total ring ticks rows b other → rows < total → ticks ≤ waits.carried →
+    a.decided (a.given waits.carried) ≤ rows → other.carried ≤ ticks →
+    b.given other.carried - other.popped ≤ (a.delay + slip) - b.delay
+past total slip other_slip ring ticks rows a b waits other path own fits_a fits_b left all undecided made =
     let last : waits.carried ≤ total + a.delay =
     elim (cases_lt (total + a.delay) waits.carried) [
       | inl h ↦ let e : waits.carried ≡ total + a.delay + 1 = omega (arith, h, fits_a.carries) in
@@ -84,29 +85,21 @@ past total slip other_slip ring slots ticks rows a b waits full path other some 
       | inr h ↦ h
     ] in
     let slow = path.late waits.carried last in
-    let behind = other.left full.carried full.popped fits_b.carries fits_b.pops in
-    omega (arith, slow, behind, some, wide, all, undecided, at, fits_b.decides)
+    let behind = own.left other.carried other.popped fits_b.carries fits_b.pops in
+    omega (arith, slow, behind, all, undecided, made, fits_b.decides)
 
-pub spared : (config : Config) (items : List Item) (sent : List (List Container)) → CanRun config items sent →
-    (s : Counts) → IsReached (plan_of config items sent) s → s.rows < config.ticks → (a b : ℕ) →
-    IsAt (IsWaitedFor s) a (plan_of config items sent) s →
-    IsAt (IsFullAt (slots_of config b)) b (plan_of config items sent) s →
-    IsAt (λ path line. s.ticks ≤ line.carried) b (plan_of config items sent) s
-spared config items sent can s reached left a b waits full =
+pub held : (config : Config) (items : List Item) (sent : List (List Container)) → CanRun config items sent →
+    (s : Counts) → IsReached (plan_of config items sent) s → s.rows < config.ticks →
+    (a b : ℕ) (path : LinePath) (line : LineCounts) → IsWaitedFor a (plan_of config items sent) s →
+    IsLineAt b path line (plan_of config items sent) s → line.carried ≤ s.ticks →
+    in_receive path line ≤ greatest config.delays - slice_index_or config.delays b 0 + greatest_slip config.windows
+held config items sent can s reached left a b path line waits at made =
     let plan : Plan = plan_of config items sent in
     let fits : Fits plan s = reached-fits plan s (can_run-plan config items sent can) reached in
-    let own = line-of config.ticks config.windows config.delays sent a waits.path can.sent_all waits.path_at in
-    let other = line-of config.ticks config.windows config.delays sent b full.path can.sent_all full.path_at in
-    let room = enough config b can.ring other.inside in
-    record {
-      path = full.path;
-      line = full.line;
-      path_at = full.path_at;
-      line_at = full.line_at;
-      so = past config.ticks own.slip other.slip config.ring (slots_of config b) s.ticks s.rows waits.path full.path
-          waits.line full.line own.is_path other.is_path
-          (omega (arith, room)) (omega (arith, room, other.delay, own.most, own.slips))
-          (each-at _ plan.paths s.lines a waits.path waits.line fits.lines waits.path_at waits.line_at)
-          (each-at _ plan.paths s.lines b full.path full.line fits.lines full.path_at full.line_at)
-          left waits.so.all waits.so.undecided full.so;
-    }
+    let own = line-of config.ticks config.windows config.delays sent a waits.path can.sent_all waits.is.path_at in
+    let other = line-of config.ticks config.windows config.delays sent b path can.sent_all at.path_at in
+    let most = past config.ticks own.slip other.slip config.ring s.ticks s.rows waits.path path waits.line line
+    own.is_path other.is_path
+    (each-at _ plan.paths s.lines a waits.path waits.line fits.lines waits.is.path_at waits.is.line_at)
+    (each-at _ plan.paths s.lines b path line fits.lines at.path_at at.line_at) left waits.all waits.undecided made in
+    omega (arith, most, own.most, own.slips, other.delay, other.most)

@@ -1,8 +1,10 @@
 -- Who does what, and what has landed.
-use Rattle.std.specs.Prelude.{◌≡◌, ℕ, ◌≤◌, Bool, true, false, List, Some}
+use Rattle.std.specs.Prelude.{◌≡◌, ℕ, ◌+◌, ◌≤◌, nat_le, Bool, true, false, if◌then◌else◌, List, Option, Some, None}
 use Rattle.law_model.specs.Common.{Container, BackCell, Leg}
 use Rattle.law_model.specs.declared.script_types.ItemKind.{ItemKind}
-use Rattle.law_model.specs.declared.script_types.ItemKind.TheVariants.{Frame, Add, Remove}
+use Rattle.law_model.specs.session.Items.{sort_of}
+use Rattle.law_model.specs.declared.script_items.item_list.ItemSort.{ItemSort}
+use Rattle.law_model.specs.declared.script_items.item_list.ItemSort.TheVariants.{Frame as frame_sort, Add as add_sort, Remove as remove_sort}
 use Rattle.thread_rings.specs.declared.burst_gate.Who.{Who}
 use Rattle.thread_rings.specs.declared.burst_gate.Who.TheVariants.{Client, Operator, Source, Line, Sink}
 use Rattle.thread_rings.specs.EndsOfRing.{OutEnd, InEnd}
@@ -11,11 +13,14 @@ use Rattle.terminal_group.specs.Landed.{due_at}
 use Rattle.thread_group.specs.Group.{HasCounted, next_of, items_of, ticks_of}
 use Rattle.thread_group.specs.GroupOfLeg.{IsBound}
 
--- who brings an item of this kind
+-- who brings an item of this sort, and of this kind
+abbrev pub brings : ItemSort → Who
+brings (frame_sort size) = Client
+brings (add_sort line) = Operator
+brings (remove_sort line) = Operator
+
 abbrev pub bringer : ItemKind → Who
-bringer (Frame octets) = Client
-bringer (Add line) = Operator
-bringer (Remove line) = Operator
+bringer kind = brings (sort_of kind)
 
 -- whether it is the one who brings frames
 abbrev pub brings_frames : Who → Bool
@@ -24,6 +29,15 @@ brings_frames Operator = false
 brings_frames Source = false
 brings_frames (Line line) = false
 brings_frames Sink = false
+
+-- what lands next: its number, or the greatest number, where nothing does
+abbrev pub next_or_greatest : Option ℕ → ℕ
+next_or_greatest None = 4294967295
+next_or_greatest (Some number) = number
+
+-- of so many items, below which number it is handed in ahead from a number on: 1,024 numbers behind it, or all
+abbrev pub handed_ahead : ℕ → ℕ → ℕ
+handed_ahead count from = if nat_le count (from + 1025) then 4294967295 else from + 1025
 
 -- an item may land: it is the next one of its kind, and due
 pub record MayLand (group : GroupState) (number : ℕ) (kind : ItemKind) : Type 0 where

@@ -21,20 +21,26 @@ pub enum Turned {
 }
 
 /// A duty is done turn by turn. However often, it stands for the session that began as it did. A turn says
-/// exactly where it is over.
+/// exactly where it is over, and whether something of it was done.
 pub trait Duty: Drop {
-    ghost use Rattle.std.specs.Prelude.{◌≡◌, ◌↔◌};
+    ghost use Rattle.std.specs.Prelude.{◌≡◌, ℕ, ◌<◌, ◌↔◌};
     ghost use Rattle.thread_session.specs.session_parts.Duty.{Begun};
 
     ghost stands_for: { Self → Begun → Type 0 };
 
     ghost is_over: { Self → Type 0 };
 
+    ghost steps_done: { Self → ℕ };
+
     /// Makes a turn. Whoever calls it passes the gate.
     fn turn(&mut self) -> Turned
         ensures stands { (begun : Begun) → stands_for self.old begun → stands_for self.new begun }
         ensures over { (result ≡ Turned.Over) ↔ is_over self.old }
-        ensures stays { is_over self.old → is_over self.new };
+        ensures stays { is_over self.old → is_over self.new }
+        ensures moved { (begun : Begun) → stands_for self.old begun → result ≡ Turned.Moved →
+            steps_done self.old < steps_done self.new }
+        ensures waits { (begun : Begun) → stands_for self.old begun → result ≡ Turned.Waits →
+            steps_done self.new ≡ steps_done self.old };
 }
 
 /// The duty of a sink: to take rows, and to write the lines of their frames. Where lines are watched it moves
@@ -85,9 +91,10 @@ impl<'a, R: Wait, K: ByteSink> SinkDuty<'a, R, K> {
 }
 
 impl<'a, R: Wait, K: ByteSink> Duty for SinkDuty<'a, R, K> {
-    ghost use Rattle.std.specs.Prelude.{◌≡◌};
+    ghost use Rattle.std.specs.Prelude.{◌≡◌, ◌+◌};
     ghost use Rattle.text_got.specs.TextSoFar.{seen};
-    ghost use Rattle.thread_sink.specs.WorkerOfSink.{taken_of, ticks_of};
+    ghost use Rattle.thread_sink.specs.ReceivedByRings.{popped};
+    ghost use Rattle.thread_sink.specs.WorkerOfSink.{cells_of, taken_of, ticks_of};
     ghost use Rattle.thread_session.specs.session_parts.Duty.{HasRun, IsLogLater};
 
     ghost stands_for = { λ duty begun. (duty.out.ghost_name ≡ begun.name)
@@ -95,6 +102,8 @@ impl<'a, R: Wait, K: ByteSink> Duty for SinkDuty<'a, R, K> {
         × IsLogLater begun.log duty.log };
 
     ghost is_over = { λ duty. taken_of duty.sink ≡ ticks_of duty.sink };
+
+    ghost steps_done = { λ duty. taken_of duty.sink + popped (cells_of duty.sink) };
 
     fn turn(&mut self) -> Turned {
         turn_log(self.rt, &mut self.log);

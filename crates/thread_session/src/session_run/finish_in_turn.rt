@@ -8,7 +8,7 @@ ghost use Rattle.thread_session.specs.session_run.SessionOfScript.{IsAllDone};
 
 use crate::session_parts::carry_all;
 use crate::session_run::group_turns::{submit, who_brings};
-use law_model::Item;
+use law_model::{FrameRoom, ItemList};
 use octet_io::ByteSink;
 use std::sync::Wait;
 use thread_alarms::watched_line::ServedLine;
@@ -17,7 +17,12 @@ use thread_rings::{Gate, Who};
 use thread_sink::{SinkBurst, SinkWorker};
 
 /// Makes the next frame where it can be made, or else lands the item that holds it. Says whether all were made before.
-fn tick_or_land<Y: Session, G: Gate>(gate: &G, group: &mut BoundGroup<Y>, items: &[Item]) -> bool
+fn tick_or_land<Y: Session, G: Gate>(
+    gate: &G,
+    group: &mut BoundGroup<Y>,
+    items: &ItemList,
+    room: &mut FrameRoom,
+) -> bool
     requires items { items.now ≡ Y.script.items }
     ensures done { result ≡ true ↔ (total_of group.old.state ≤ ticks_of group.old.state) }
     ensures stays { result ≡ true → total_of group.new.state ≤ ticks_of group.new.state }
@@ -26,20 +31,26 @@ fn tick_or_land<Y: Session, G: Gate>(gate: &G, group: &mut BoundGroup<Y>, items:
     match group.tick() {
         TickAnswer::Done => return true,
         TickAnswer::Ticked => gate.moved(Who::Source),
-        TickAnswer::Held { item } => land_held::<Y, G>(gate, group, items, item),
+        TickAnswer::Held { item } => land_held::<Y, G>(gate, group, items, item, room),
         TickAnswer::TxFull { line: _ } | TickAnswer::BackMissing { packet: _ } => {}
     }
     false
 }
 
 /// Lands an item that holds a tick.
-fn land_held<Y: Session, G: Gate>(gate: &G, group: &mut BoundGroup<Y>, items: &[Item], number: u32)
+fn land_held<Y: Session, G: Gate>(
+    gate: &G,
+    group: &mut BoundGroup<Y>,
+    items: &ItemList,
+    number: u32,
+    room: &mut FrameRoom,
+)
     requires items { items.now ≡ Y.script.items }
 {
-    if let Some(item) = items.get(number as usize) {
-        let who = who_brings(&item.kind);
+    if number < items.len() {
+        let who = who_brings(items, number);
         gate.pass(who);
-        if submit(group, number, &item.kind) {
+        if submit(group, items, number, room) {
             gate.moved(who);
         }
     }
@@ -50,7 +61,8 @@ fn land_held<Y: Session, G: Gate>(gate: &G, group: &mut BoundGroup<Y>, items: &[
 fn round<Y: Session, R: Wait, K: ByteSink, G: Gate>(
     rt: &R,
     gate: &G,
-    items: &[Item],
+    items: &ItemList,
+    room: &mut FrameRoom,
     group: &mut BoundGroup<Y>,
     lines: &mut Vec<ServedLine>,
     sink: &mut SinkWorker,
@@ -64,17 +76,19 @@ fn round<Y: Session, R: Wait, K: ByteSink, G: Gate>(
         HasRun begun sink.old (seen (K.written out.old) (K.faults out.old)) →
         HasRun begun sink.new (seen (K.written out.new) (K.faults out.new)) }
 {
-    let made = tick_or_land::<Y, G>(gate, group, items);
+    let made = tick_or_land::<Y, G>(gate, group, items, room);
     let carried = carry_all(rt, lines, gate);
     let taken = sink.burst(out, gate) == SinkBurst::Done;
     made && carried && taken
 }
 
-/// Makes rounds until all frames are made, all lines have come to their end and all rows are taken.
+/// Makes rounds until all frames are made, all lines have come to their end and all rows are taken. A frame that is
+/// drawn comes into the room.
 pub(super) fn finish<Y: Session, R: Wait, K: ByteSink, G: Gate>(
     rt: &R,
     gate: &G,
-    items: &[Item],
+    items: &ItemList,
+    room: &mut FrameRoom,
     group: &mut BoundGroup<Y>,
     lines: &mut Vec<ServedLine>,
     sink: &mut SinkWorker,
@@ -88,7 +102,7 @@ pub(super) fn finish<Y: Session, R: Wait, K: ByteSink, G: Gate>(
         HasRun begun sink.new (seen (K.written out.new) (K.faults out.new)) }
 {
     for _ in rt.forever() {
-        if round::<Y, R, K, G>(rt, gate, items, group, lines, sink, out) {
+        if round::<Y, R, K, G>(rt, gate, items, room, group, lines, sink, out) {
             return;
         }
     }

@@ -1,37 +1,48 @@
 //! The turns at the group, each under its lock. Client and operator hand in their items ahead, and the source lands
 //! each of them at its due tick, and makes the frames.
-ghost use Rattle.std.specs.Prelude.{◌≡◌, ℕ, ◌≤◌, ◌<◌, ◌↔◌, true, false, Some};
+ghost use Rattle.std.specs.Prelude.{◌≡◌, ℕ, ◌≤◌, ◌<◌, ◌↔◌, true, false, Some, IfSome, IfNone};
+ghost use Rattle.std.specs.Prelude.{length, slice_get};
+ghost use Rattle.std.specs.Option.{is_some};
 ghost use Rattle.law_model.specs.Common.{leg_of, refusal_in};
+ghost use Rattle.law_model.specs.declared.script_types.Item.{Item};
 ghost use Rattle.law_walk.specs.Common.{is_client};
 ghost use Rattle.thread_group.specs.FaultsAndStops.{has_landed};
 ghost use Rattle.thread_group.specs.Group.{HasCounted, next_brought};
 ghost use Rattle.thread_group.specs.HandedAhead.{handed_below};
-ghost use Rattle.thread_group.specs.GroupOfLeg.{IsItemOf};
 ghost use Rattle.thread_session.specs.session_parts.Flags.{heeded};
-ghost use Rattle.thread_session.specs.session_run.Turns.{bringer, brings_frames, HasLanded, MayLand};
+ghost use Rattle.thread_session.specs.session_run.Turns.{bringer, brings, brings_frames, handed_ahead, next_or_greatest};
+ghost use Rattle.thread_session.specs.session_run.Turns.{HasLanded, MayLand};
 
 use crate::session_parts::{Bell, Heed};
 use crate::session_run::room_and_flags::Flags;
-use law_model::{Item, ItemKind};
+use law_model::{FrameRoom, ItemList, ItemSort};
 use std::sync::{Mutex, OnceToken, Wait};
-use terminal_group::handed;
+use terminal_group::lent_item;
 use thread_group::{BoundGroup, Session, SubmitFault, TickAnswer};
 use thread_rings::{Gate, Who};
 
-/// So many items of the client, or of the operator, are handed in ahead of those that have landed.
+/// So many numbers behind the next item of the client, or of the operator, its items are handed in ahead.
 const AHEAD: u32 = 1024;
 
 /// So many frames are made at most before the lock is given back and the lines are rung for.
 const FRAMES: u32 = 8;
 
-/// Who brings an item of this kind.
-pub(super) fn who_brings(kind: &ItemKind) -> Who
-    ensures { result ≡ bringer kind.now }
+/// Who brings an item of this sort.
+fn bringer_of(sort: ItemSort) -> Who
+    ensures { result ≡ brings sort }
 {
-    match kind {
-        ItemKind::Frame(_) => Who::Client,
-        ItemKind::Add(_) | ItemKind::Remove(_) => Who::Operator,
+    match sort {
+        ItemSort::Frame(_) => Who::Client,
+        ItemSort::Add(_) | ItemSort::Remove(_) => Who::Operator,
     }
+}
+
+/// Who brings the item of this number.
+pub(super) fn who_brings(items: &ItemList, number: u32) -> Who
+    requires { number < length items.now }
+    ensures { (item : Item) → slice_get items.now number ≡ Some item → result ≡ bringer item.kind }
+{
+    bringer_of(items.head(number).sort)
 }
 
 /// Whether an item has landed, by what the group answered.
@@ -51,36 +62,36 @@ fn has_landed(answer: Result<(), SubmitFault>) -> bool
     }
 }
 
-/// Submits an item, and says whether it has landed.
-pub(super) fn submit<Y: Session>(group: &mut BoundGroup<Y>, number: u32, kind: &ItemKind) -> bool
-    requires { IsItemOf (leg_of Y.script) number kind.now }
-    ensures counted { HasCounted group.old.state group.new.state kind.now result }
-    ensures when { result ≡ true ↔ MayLand group.old.state number kind.now }
+/// Submits the item of this number, and says whether it has landed. A frame that is drawn comes into the room.
+pub(super) fn submit<Y: Session>(
+    group: &mut BoundGroup<Y>,
+    items: &ItemList,
+    number: u32,
+    room: &mut FrameRoom,
+) -> bool
+    requires items { items.now ≡ Y.script.items }
+    requires number { number < length items.now }
+    ensures counted { (item : Item) → slice_get items.now number ≡ Some item →
+        HasCounted group.old.state group.new.state item.kind result }
+    ensures when { (item : Item) → slice_get items.now number ≡ Some item →
+        result ≡ true ↔ MayLand group.old.state number item.kind }
     ensures stays { result ≡ false → group.new.state ≡ group.old.state }
-    ensures landed { result ≡ true → HasLanded (leg_of Y.script) Y.tx Y.back number kind.now }
+    ensures landed { (item : Item) → slice_get items.now number ≡ Some item →
+        result ≡ true → HasLanded (leg_of Y.script) Y.tx Y.back number item.kind }
 {
-    has_landed(group.submit(number, handed(kind)))
+    let lent = items.lend(number, room);
+    has_landed(group.submit(number, lent_item(lent, room)))
 }
 
-/// The number of the item that this one brings behind the next so many, from a number on; where there is none, the
-/// greatest number.
-fn ahead_of(items: &[Item], from: u32, who: Who) -> u32
-    ensures least { from ≤ result }
-    ensures more { from < 4294967295 → from < result }
+/// Below which number it is handed in ahead from this number on: so many numbers further, or the greatest number, where
+/// no item is behind these.
+fn ahead_of(items: &ItemList, from: u32) -> u32
+    ensures { result ≡ handed_ahead (length items.now) from }
 {
-    let mut left = AHEAD;
-    for number in from..u32::MAX {
-        let Some(item) = items.get(number as usize) else {
-            return u32::MAX;
-        };
-        if who_brings(&item.kind) == who {
-            if left == 0 {
-                return number;
-            }
-            left -= 1;
-        }
+    if from >= items.len().saturating_sub(1 + AHEAD) {
+        return u32::MAX;
     }
-    u32::MAX
+    from + 1 + AHEAD
 }
 
 /// Whether this one brings the frames of the client.
@@ -95,8 +106,16 @@ fn is_client(who: Who) -> bool
 
 /// Hands in ahead what this one brings, where what lands next isn't handed in, and gives the number below which it did.
 /// Nothing lands by that, and then what lands next is handed in.
-fn hand_in_ahead<Y: Session>(group: &mut BoundGroup<Y>, who: Who, items: &[Item]) -> Option<u32>
+fn hand_in_ahead<Y: Session>(group: &mut BoundGroup<Y>, who: Who, items: &ItemList) -> Option<u32>
     ensures state { group.new.state ≡ group.old.state }
+    ensures when { is_some result ≡ true
+        ↔ (handed_below group.old.handed (brings_frames who)
+        ≤ next_or_greatest (next_brought group.old.state (brings_frames who))) }
+    ensures below { IfSome result (λ below. below ≡ handed_ahead (length items.now)
+        (next_or_greatest (next_brought group.old.state (brings_frames who)))) }
+    ensures handed { IfSome result (λ below.
+        handed_below group.new.handed (brings_frames who) ≡ below) }
+    ensures none { IfNone result (group.new.handed ≡ group.old.handed) }
     ensures next { (number : ℕ) → number < 4294967295 →
         next_brought group.old.state (brings_frames who) ≡ Some number →
         number < handed_below group.new.handed (brings_frames who) }
@@ -106,7 +125,7 @@ fn hand_in_ahead<Y: Session>(group: &mut BoundGroup<Y>, who: Who, items: &[Item]
     if group.is_handed_in(client, next) {
         return None;
     }
-    let below = ahead_of(items, next, who);
+    let below = ahead_of(items, next);
     group.hand_in(client, below);
     Some(below)
 }
@@ -120,7 +139,7 @@ pub(super) fn hand_in_all<'s, Y: Session, R: Wait, G: Gate>(
     stop: Heed<'s>,
     source: &Bell,
     who: Who,
-    items: &[Item],
+    items: &ItemList,
 ) -> OnceToken<'s, ()>
     ensures { result.of ≡ heeded stop.entry }
 {
@@ -144,38 +163,42 @@ pub(super) fn hand_in_all<'s, Y: Session, R: Wait, G: Gate>(
 
 /// Lands an item, where it is handed in, the next of its kind and due. Says whether it has landed; if not, nothing
 /// has changed.
-fn land<Y: Session>(group: &mut BoundGroup<Y>, number: u32, kind: &ItemKind) -> bool
-    requires { IsItemOf (leg_of Y.script) number kind.now }
-    ensures landed { result ≡ true → HasLanded (leg_of Y.script) Y.tx Y.back number kind.now }
-    ensures handed { result ≡ true
-        ↔ (number < handed_below group.old.handed (is_client kind.now))
-        × MayLand group.old.state number kind.now }
+fn land<Y: Session>(
+    group: &mut BoundGroup<Y>,
+    items: &ItemList,
+    number: u32,
+    room: &mut FrameRoom,
+) -> bool
+    requires items { items.now ≡ Y.script.items }
+    requires number { number < length items.now }
+    ensures landed { (item : Item) → slice_get items.now number ≡ Some item →
+        result ≡ true → HasLanded (leg_of Y.script) Y.tx Y.back number item.kind }
+    ensures handed { (item : Item) → slice_get items.now number ≡ Some item → result ≡ true
+        ↔ (number < handed_below group.old.handed (is_client item.kind))
+        × MayLand group.old.state number item.kind }
     ensures stays { result ≡ false → group.new.state ≡ group.old.state }
 {
-    let client = who_brings(kind) == Who::Client;
-    group.is_handed_in(client, number) && submit(group, number, kind)
-}
-
-/// Lands the item that holds a tick, where it is handed in. Says whether it has landed.
-fn land_held<Y: Session>(group: &mut BoundGroup<Y>, items: &[Item], number: u32) -> bool
-    requires { items.now ≡ Y.script.items }
-{
-    match items.get(number as usize) {
-        Some(item) => land(group, number, &item.kind),
-        None => false,
+    let client = is_client(who_brings(items, number));
+    if !group.is_handed_in(client, number) {
+        return false;
     }
+    submit(group, items, number, room)
 }
 
 /// Makes the next frame, where it can be made once the items have landed that hold it and are handed in.
-fn make_frame<Y: Session>(group: &mut BoundGroup<Y>, items: &[Item]) -> TickAnswer
+fn make_frame<Y: Session>(
+    group: &mut BoundGroup<Y>,
+    items: &ItemList,
+    room: &mut FrameRoom,
+) -> TickAnswer
     requires { items.now ≡ Y.script.items }
 {
-    for _ in items {
+    for _ in 0..items.len() {
         let answer = group.tick();
         let TickAnswer::Held { item } = answer else {
             return answer;
         };
-        if !land_held(group, items, item) {
+        if item >= items.len() || !land(group, items, item, room) {
             return answer;
         }
     }
@@ -183,11 +206,15 @@ fn make_frame<Y: Session>(group: &mut BoundGroup<Y>, items: &[Item]) -> TickAnsw
 }
 
 /// Makes some frames, as long as they can be made. Says how many, and what became of the last try.
-fn make_frames<Y: Session>(group: &mut BoundGroup<Y>, items: &[Item]) -> (u32, TickAnswer)
+fn make_frames<Y: Session>(
+    group: &mut BoundGroup<Y>,
+    items: &ItemList,
+    room: &mut FrameRoom,
+) -> (u32, TickAnswer)
     requires { items.now ≡ Y.script.items }
 {
     for made in 0..FRAMES {
-        let answer = make_frame(group, items);
+        let answer = make_frame(group, items, room);
         if answer != TickAnswer::Ticked {
             return (made, answer);
         }
@@ -196,18 +223,20 @@ fn make_frames<Y: Session>(group: &mut BoundGroup<Y>, items: &[Item]) -> (u32, T
 }
 
 /// Rings for whoever brings an item.
-fn ring_for(flags: &Flags, items: &[Item], number: u32) {
-    if let Some(item) = items.get(number as usize) {
-        match &item.kind {
-            ItemKind::Frame(_) => flags.client.bell.ring(),
-            ItemKind::Add(_) | ItemKind::Remove(_) => flags.operator.bell.ring(),
-        }
+fn ring_for(flags: &Flags, items: &ItemList, number: u32) {
+    if number < items.len() {
+        let flag = if is_client(who_brings(items, number)) {
+            &flags.client
+        } else {
+            &flags.operator
+        };
+        flag.bell.ring();
     }
 }
 
 /// Rings for those that go on with the frames that were made, and for those without whom no more were made; then it
 /// waits for these.
-fn go_on<R: Wait>(rt: &R, flags: &Flags, items: &[Item], made: u32, answer: TickAnswer) {
+fn go_on<R: Wait>(rt: &R, flags: &Flags, items: &ItemList, made: u32, answer: TickAnswer) {
     if made > 0 {
         flags.ring_for_lines();
     }
@@ -226,14 +255,15 @@ fn go_on<R: Wait>(rt: &R, flags: &Flags, items: &[Item], made: u32, answer: Tick
 }
 
 /// Makes the frames one after another as they can be made, some in each turn, and comes back once the flag is stored.
-/// After the last one return cells are still moved.
+/// After the last one return cells are still moved. A frame that is drawn comes into the room.
 pub(super) fn tick_all<'s, Y: Session, R: Wait, G: Gate>(
     rt: &R,
     gate: &G,
     lock: &Mutex<BoundGroup<Y>>,
     stop: Heed<'s>,
     flags: &Flags,
-    items: &[Item],
+    items: &ItemList,
+    mut room: FrameRoom,
 ) -> OnceToken<'s, ()>
     requires { items.now ≡ Y.script.items }
     ensures { result.of ≡ heeded stop.entry }
@@ -243,7 +273,7 @@ pub(super) fn tick_all<'s, Y: Session, R: Wait, G: Gate>(
             return told;
         }
         gate.pass(Who::Source);
-        let (made, answer) = make_frames(&mut *lock.lock(rt), items);
+        let (made, answer) = make_frames(&mut *lock.lock(rt), items, &mut room);
         if made > 0 {
             gate.moved(Who::Source);
         }

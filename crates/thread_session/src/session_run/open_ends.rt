@@ -1,17 +1,16 @@
 //! The opening of a session: all of its memory is taken here.
-ghost use Rattle.std.specs.Prelude.{◌≡◌, ◌<◌, ◌≤◌, IfOk, All, [], ◌∷◌, length, replicate, vec_len};
-ghost use Rattle.law_model.specs.Common.{offers_of, leg_of, IsValid, IsKind, most_items};
-ghost use Rattle.law_model.specs.declared.script_types.Item.{Item};
+ghost use Rattle.std.specs.Prelude.{◌≡◌, ◌<◌, IfOk, [], ◌∷◌, length, replicate, vec_len};
+ghost use Rattle.law_model.specs.Common.{leg_of, IsValid};
 ghost use Rattle.thread_rings.specs.EndsOfRing.{AreEnds, out_passed, in_passed};
 ghost use Rattle.thread_sink.specs.ReceivedByRings.{received};
 ghost use Rattle.thread_group.specs.GroupRings.{AreUnused};
-ghost use Rattle.thread_group.specs.GroupOfLeg.{octets_in, IsBound};
+ghost use Rattle.thread_group.specs.GroupOfLeg.{IsBound};
 ghost use Rattle.thread_session.specs.session_run.RoomForThreads.{IsKitFor};
 ghost use Rattle.thread_session.specs.session_run.SessionOfScript.{IsOpen, IsSinkOf};
 
 use crate::session_parts::open_lines;
 use crate::session_run::room_and_flags::Kit;
-use law_model::{Item, ItemKind, Script};
+use law_model::{LONGEST_OFFER, Script};
 use member_cells::{BackCell, Cell, Container};
 use std::alloc::{AllocError, Global};
 use thread_group::GroupState;
@@ -25,32 +24,6 @@ pub(super) struct Opened {
     pub(super) lines: Vec<LineWorker>,
     pub(super) sink: SinkWorker,
     pub(super) kit: Kit,
-}
-
-/// The octets of an item's frame.
-fn octets(item: &Item) -> u64
-    ensures { result ≡ octets_in (offers_of (item.now ∷ [])) }
-{
-    match &item.kind {
-        ItemKind::Frame(octets) => octets.0.len() as u64,
-        ItemKind::Add(_) | ItemKind::Remove(_) => 0,
-    }
-}
-
-/// The octets of all frames of a script.
-fn all_octets(items: &[Item]) -> u64
-    requires few { length items.now ≤ most_items }
-    requires each { All (λ (item : Item). IsKind item.kind) items.now }
-    ensures { result ≡ octets_in (offers_of items.now) }
-{
-    items.iter().map(octets).sum()
-}
-
-/// The items of a script.
-pub(super) fn items_of(script: &Script) -> &[Item]
-    ensures { result.now ≡ script.now.items }
-{
-    &script.items.0
 }
 
 /// A group of a script over fresh rings, with room in its journal for all items.
@@ -67,15 +40,9 @@ fn open_group(
     ensures bound { IfOk result (λ g. IsBound (leg_of script.now) g.tx.items (g.back ∷ []) g) }
     ensures ends { IfOk result (λ g. (g.tx ≡ tx) × (g.back ≡ back)) }
 {
-    let items = items_of(script);
-    GroupState::new(
-        alloc,
-        script,
-        items.len() as u32,
-        all_octets(items),
-        tx,
-        back,
-    )
+    let entries = script.items.len();
+    let bytes = LONGEST_OFFER as u64 * u64::from(entries);
+    GroupState::new(alloc, script, entries, bytes, tx, back)
 }
 
 /// The worker of the sink of a script over fresh rings.

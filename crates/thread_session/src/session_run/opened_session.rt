@@ -17,7 +17,7 @@ ghost use Rattle.thread_session.specs.session_run.SessionRingsLaid.{AreLaid, IsS
 
 use crate::session_parts::{SinkDuty, lay_receives, lay_sends};
 use crate::session_run::finish_in_turn::finish;
-use crate::session_run::open_ends::{Opened, items_of};
+use crate::session_run::open_ends::Opened;
 use crate::session_run::room_and_flags::{Kit, Places};
 use crate::session_run::start_threads::lines_beside;
 use law_model::Script;
@@ -105,13 +105,14 @@ pub(super) fn run_opened<Y: Session, R: Threads + Wait + Sync, K: ByteSink, G: G
         flags,
         room,
         places,
+        mut frame,
     } = kit;
     let Places {
         lines: served,
         workers,
         posts: given_back,
     } = places;
-    let items = items_of(script);
+    let items = &script.items;
     let lock = Mutex::new(BoundGroup::<Y>::new(group));
     let duty = SinkDuty::new(rt, sink, out, log);
     let lines = serve_lines(lines, posts, served);
@@ -120,7 +121,9 @@ pub(super) fn run_opened<Y: Session, R: Threads + Wait + Sync, K: ByteSink, G: G
     );
     let (mut sink, place, log) = duty.into_parts();
     let mut group = lock.into_inner();
-    finish::<Y, R, K, G>(rt, gate, items, &mut group, &mut lines, &mut sink, place);
+    finish::<Y, R, K, G>(
+        rt, gate, items, &mut frame, &mut group, &mut lines, &mut sink, place,
+    );
     take_back(place);
     let (lines, posts) = split_lines(lines, workers, given_back);
     Left {

@@ -5,6 +5,7 @@ ghost use Rattle.thread_session.specs.session_parts.ServedLines.{HaveRoom};
 ghost use Rattle.thread_session.specs.session_run.RoomForThreads.{HasRoomFor};
 
 use crate::session_parts::{Bell, Flag, Held};
+use law_model::FrameRoom;
 use std::alloc::{AllocError, Global};
 use std::sync::Wait;
 use thread_alarms::alarm_log::AlarmPost;
@@ -74,13 +75,14 @@ impl Flags {
     }
 }
 
-/// Places for the lines while they are dealt to threads and come back.
+/// Places for the lines while they are dealt to threads and come back, and for a frame that the source draws.
 #[derive(Drop)]
 pub(super) struct Room {
     pub(super) shares: Vec<Vec<ServedLine>>,
     pub(super) held: Vec<Held>,
     pub(super) back: Vec<Vec<ServedLine>>,
     pub(super) lines: Vec<ServedLine>,
+    pub(super) frame: FrameRoom,
 }
 
 impl Room {
@@ -99,6 +101,7 @@ impl Room {
             held: Vec::with_capacity(alloc, threads)?,
             back: Vec::with_capacity(alloc, threads)?,
             lines: Vec::with_capacity(alloc, count)?,
+            frame: FrameRoom::new(alloc)?,
         })
     }
 }
@@ -134,6 +137,8 @@ pub(super) struct Kit {
     pub(super) flags: Flags,
     pub(super) room: Room,
     pub(super) places: Places,
+    /// For a frame that is drawn once all threads have ended.
+    pub(super) frame: FrameRoom,
 }
 
 impl Kit {
@@ -146,6 +151,7 @@ impl Kit {
         requires { 0 < workers }
         ensures { IfOk result (IsKitFor lines) }
     {
+        let frame = FrameRoom::new(alloc)?;
         let places = Places::new(alloc, lines)?;
         let room = Room::new(alloc, lines, workers)?;
         let flags = Flags::new(alloc, workers)?;
@@ -153,6 +159,7 @@ impl Kit {
             flags,
             room,
             places,
+            frame,
         })
     }
 }

@@ -1,5 +1,5 @@
 //! All threads of a session beside each other.
-ghost use Rattle.std.specs.Prelude.{◌≡◌, ◌≤◌, List, [], length, vec_len, IfSome, IsTrue, vec_capacity};
+ghost use Rattle.std.specs.Prelude.{◌≡◌, ◌<◌, ◌≤◌, ◌⊎◌, List, [], length, vec_len, IfSome, IsTrue, vec_capacity};
 ghost use Rattle.std.specs.Global.{Vec};
 ghost use Rattle.thread_alarms.specs.declared.watched_line.served_line.ServedLine.{ServedLine};
 ghost use Rattle.thread_session.specs.session_parts.Duty.{Begun};
@@ -17,7 +17,7 @@ use crate::session_parts::{
 };
 use crate::session_run::group_turns::{hand_in_all, tick_all};
 use crate::session_run::room_and_flags::{Flags, Room};
-use law_model::Item;
+use law_model::{FrameRoom, ItemList};
 use std::sync::{Mutex, OnceToken, Wait};
 use std::thread;
 use std::thread::{PromisedHandle, Scope, Threads};
@@ -37,7 +37,7 @@ fn start_bringing<'s, 'e, Y: Session, R: Wait + Sync, G: Gate>(
     flag: &'s Flag,
     source: &'s Bell,
     who: Who,
-    items: &'s [Item],
+    items: &'s ItemList,
 ) -> Option<Child<'s>>
     ensures { IfSome result (λ child. comes_by child.promise ≡ flag_of flag.now) }
 {
@@ -55,16 +55,16 @@ fn start_source<'s, 'e, Y: Session, R: Wait + Sync, G: Gate>(
     gate: &'s G,
     lock: &'s Mutex<BoundGroup<Y>>,
     flags: &'s Flags,
-    items: &'s [Item],
+    items: &'s ItemList,
+    room: FrameRoom,
 ) -> Option<Child<'s>>
     requires { items.now ≡ Y.script.items }
     ensures { IfSome result (λ child. comes_by child.promise ≡ flag_of flags.now.source) }
 {
-    let stop = flags.source.heed();
     let work = move || -> OnceToken<'_, ()>
         requires { items.now ≡ Y.script.items }
-        ensures { result.of ≡ heeded stop.entry }
-    { tick_all::<Y, R, G>(rt, gate, lock, stop, flags, items) };
+        ensures { result.of ≡ flag_of flags.entry.now.source }
+    { tick_all::<Y, R, G>(rt, gate, lock, flags.source.heed(), flags, items, room) };
     scope.spawn_with(Comes::by(&flags.source), work).ok()
 }
 
@@ -78,8 +78,8 @@ fn join_started<'s, R: Threads>(rt: &R, child: Option<Child<'s>>, stored: &OnceT
     }
 }
 
-/// Makes a burst of each worker that no thread serves, and then a turn of the duty. It has moved where one of
-/// these did.
+/// Makes a burst of each worker that no thread serves, and then a turn of the duty. Where the duty isn't over, it has
+/// moved exactly where one of these did.
 fn turn_here<R: Wait, G: Gate, D: Duty>(
     rt: &R,
     gate: &G,
@@ -95,6 +95,11 @@ fn turn_here<R: Wait, G: Gate, D: Duty>(
     ensures tried { AreTriedHere held.old.items held.new.items }
     ensures waits { result ≡ Turned.Waits →
         all_carries_here held.new.items ≤ all_carries_here held.old.items }
+    ensures rests { (begun : Begun) → D.stands_for duty.old begun → result ≡ Turned.Waits →
+        D.steps_done duty.new ≡ D.steps_done duty.old }
+    ensures moved { (begun : Begun) → D.stands_for duty.old begun → result ≡ Turned.Moved →
+        (all_carries_here held.old.items < all_carries_here held.new.items)
+        ⊎ (D.steps_done duty.old < D.steps_done duty.new) }
 {
     let carried = serve_all_here(rt, held, gate);
     gate.pass(Who::Sink);
@@ -148,7 +153,8 @@ fn shares_beside<'x, Y: Session, R: Threads + Wait + Sync, G: Gate, D: Duty>(
     gate: &'x G,
     lock: &'x Mutex<BoundGroup<Y>>,
     flags: &'x Flags,
-    items: &'x [Item],
+    items: &'x ItemList,
+    room: FrameRoom,
     shares: Vec<Vec<ServedLine>>,
     held_room: Vec<Held>,
     back_room: Vec<Vec<ServedLine>>,
@@ -194,7 +200,7 @@ fn shares_beside<'x, Y: Session, R: Threads + Wait + Sync, G: Gate, D: Duty>(
                 Who::Operator,
                 items,
             );
-            let source = start_source::<Y, R, G>(scope, rt, gate, lock, flags, items);
+            let source = start_source::<Y, R, G>(scope, rt, gate, lock, flags, items, room);
             let held = start_shares(
                 scope,
                 rt,
@@ -224,7 +230,7 @@ pub(super) fn lines_beside<Y: Session, R: Threads + Wait + Sync, G: Gate, D: Dut
     gate: &G,
     lock: &Mutex<BoundGroup<Y>>,
     flags: &Flags,
-    items: &[Item],
+    items: &ItemList,
     lines: Vec<ServedLine>,
     room: Room,
     duty: D,
@@ -240,11 +246,12 @@ pub(super) fn lines_beside<Y: Session, R: Threads + Wait + Sync, G: Gate, D: Dut
         held,
         back,
         lines: place,
+        frame,
     } = room;
     let count = lines.len();
     let shares = deal(lines, shares);
     let (shares, duty) = shares_beside::<Y, R, G, D>(
-        rt, gate, lock, flags, items, shares, held, back, duty,
+        rt, gate, lock, flags, items, frame, shares, held, back, duty,
     );
     (collect(shares, count, place), duty)
 }
