@@ -4,6 +4,7 @@
 Life.texts = (() => {
   const { byId, count } = Life.basics;
   const KINDS = ["script", "trace", "fates", "service", "report"];
+  const MOST_FRAMES = 500000;
   const FATES = ["got", "cut", "hunting", "unsettled", "unconfirmed", "waits", "refused"];
 
   /* In the page a backslash is doubled, and a less-than sign and a CR are \x3c and \x0d, so that no text ends its element
@@ -44,6 +45,18 @@ Life.texts = (() => {
     return { item, kind: "frame", due: +due, octets: short ? +short[1] : hex.length / 2 };
   }
 
+  /* The frames of `stream OCTETS MBITS FIRST END NUMBER`: their sizes come in turn. Whether there are more than a page shows. */
+  function streamItems(items, [sizes = "", mbits, first, end]) {
+    const octets = sizes.split(",").map(Number);
+    let due = +first;
+    for (let k = 0, before = 0; due < end && items.length < MOST_FRAMES; k++) {
+      items.push({ item: items.length, kind: "frame", due, octets: octets[k % octets.length] });
+      before += octets[k % octets.length];
+      due = +first + Math.floor(8 * before / (125 * mbits));
+    }
+    return due < end;
+  }
+
   const EVENTS = new Set(["client", "operator", "tick", "back", "take", "round", "carry", "drain"]);
 
   function scriptLine(script, line, at, faults) {
@@ -58,6 +71,9 @@ Life.texts = (() => {
         script[word] = numbers[0]; break;
       case "fail": script.fails.push({ line: numbers[0], first: numbers[1], end: numbers[2], slip: numbers[3] }); break;
       case "lost": script.losts.push({ first: numbers[0], end: numbers[1] }); break;
+      case "stream":
+        if (streamItems(script.items, words.slice(1))) faults.push("Line " + at + " of the script brings it to more frames than a page shows.");
+        break;
       case "add": case "remove":
         script.items.push({ item: script.items.length, kind: word, due: numbers[0], line: numbers[1] }); break;
       default:

@@ -432,6 +432,9 @@ class Tests:
                       "Line 1 is \u201clines %s\u201d." % number, False, trace_status=5)
         path, _, status = self.pages.make("long", {**texts, "trace": b"fault: too long\n"}, trace_status=8)
         self.same("no page", (os.path.getsize(path), status), (0, 8))
+        for lines, told in ((b"ticks 28800000\n", "28800000 ticks and 9 frames"), (b"stream 64,9600 1 0 9 1\nstream 64 400000 0 6 1\n", "1700 ticks and 585949 frames")):
+            path, notes, status = self.pages.make("long", {**texts, "script": texts["script"] + lines})
+            self.same("too long", (os.path.getsize(path), status, told in notes), (0, 126, True))
 
     def drop(self, texts):
         """Drops files on the page: their names with their texts."""
@@ -513,7 +516,7 @@ def run(tests, program):
         tests.counts(name, texts[name])
     example = texts["failed_member"]
     tests.painted("failed_member", example)
-    texts["client"] = walked(program, at_a_rate(program, example["script"]))
+    texts["client"] = walked(program, at_a_rate(example["script"]))
     tests.counts("client", texts["client"])
     for name in ("failed_member", "slip", "queue", "client"):
         tests.service(name, texts[name])
