@@ -7,7 +7,7 @@ processor time, the octets of all containers that it is in a second by the clock
     bench/loads.py --script KIND LINES TICKS OCTETS   the script of a load, printed
 
 A load is `full`, a group that is kept nearly full with frames of so many octets from the tick on in which all lines are in use; `idle`, a group without
-frames; or `queue`, 256 frames that wait from the start. The programs have to be built: rt ci does it. As `./vcat` does, this script asks for
+frames; `queue`, 256 frames that wait from the start; or `stream`, nearly full by one line `stream`. The programs have to be built: rt ci does it. As `./vcat` does, this script asks for
 huge pages, unless GLIBC_TUNABLES says something else."""
 import os
 import pathlib
@@ -34,6 +34,10 @@ LOADS = [
     ("walk", "idle", 1, 200_000, 0),
     ("walk", "idle", 64, 12_000, 0),
     ("walk", "queue", 1, 200_000, 9600),
+    ("walk", "stream", 1, 14_000, 64),
+    ("walk", "stream", 1, 14_000, 1518),
+    ("service 1000", "stream", 7, 80_000, 1518),
+    ("service 8000", "idle", 1, 28_800_000, 0),
 ] + [(f"run {workers}", "full", lines, ticks, 1518) for lines, ticks in ((1, 14_000), (8, 2300), (64, 4450)) for workers in (1, 2, 4)]
 
 
@@ -52,6 +56,9 @@ def frames(kind, lines, ticks, octets, room):
     """The lines of the client's frames, as far as there is room for them."""
     draw = random.Random(1)
     first, rate = (0, 256) if kind == "queue" else (16 * LAG * lines + 164, 0.95 * PAYLOAD * lines / (octets + 8))
+    if kind == "stream":
+        yield f"stream {octets} {int(0.064 * octets * rate)} {first} {ticks} 1"
+        return
     credit = 0.0
     for tick in range(first, first + 1 if kind == "queue" else ticks):
         credit += rate
@@ -102,7 +109,7 @@ def write_script(path, *load):
 
 def row(words, kind, lines, ticks, octets, turns):
     """The row of a load."""
-    what = {"full": f"kept full, frames of {octets:,} octets", "idle": "idle", "queue": f"256 frames of {octets:,} octets"}[kind]
+    what = {"full": f"kept full, frames of {octets:,} octets", "idle": "idle", "stream": f"a line of frames of {octets:,} octets", "queue": f"256 frames of {octets:,} octets"}[kind]
     seconds, processor, memory = (min(each) for each in zip(*turns))
     speed = lines * ticks * PAYLOAD / seconds / 1e6
     return f"| `{words}` | {lines} | {what} | {ticks:,} | {seconds:.3f} s | {processor:.3f} s | {speed:,.0f} million | {memory:.0f} MiB |"
