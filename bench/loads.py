@@ -7,8 +7,8 @@ processor time, the octets of all containers that it is in a second by the clock
     bench/loads.py --script KIND LINES TICKS OCTETS   the script of a load, printed
 
 A load is `full`, a group that is kept nearly full with frames of so many octets from the tick on in which all lines are in use; `idle`, a group without
-frames; `queue`, 256 frames that wait from the start; or `stream`, nearly full by one line `stream`. The programs have to be built: rt ci does it. As `./vcat` does, this script asks for
-huge pages, unless GLIBC_TUNABLES says something else."""
+frames; `queue`, 256 frames that wait from the start; or `stream`, nearly full by one line `stream`. The programs have to be built: rt ci does it.
+As `./vcat` does, this script asks for huge pages, unless GLIBC_TUNABLES says something else."""
 import os
 import pathlib
 import random
@@ -109,7 +109,8 @@ def write_script(path, *load):
 
 def row(words, kind, lines, ticks, octets, turns):
     """The row of a load."""
-    what = {"full": f"kept full, frames of {octets:,} octets", "idle": "idle", "stream": f"a line of frames of {octets:,} octets", "queue": f"256 frames of {octets:,} octets"}[kind]
+    size = f"frames of {octets:,} octets"
+    what = {"full": f"kept full, {size}", "idle": "idle", "queue": f"256 {size}", "stream": f"kept full by a line, {size}"}[kind]
     seconds, processor, memory = (min(each) for each in zip(*turns))
     speed = lines * ticks * PAYLOAD / seconds / 1e6
     return f"| `{words}` | {lines} | {what} | {ticks:,} | {seconds:.3f} s | {processor:.3f} s | {speed:,.0f} million | {memory:.0f} MiB |"
