@@ -73,7 +73,7 @@ fn say(text: &mut Vec<u8>, octets: &[u8]) {
 /// What is said of the first word of a line of a script.
 const FIRST: &str =
     "a line begins with one of container, lines, delays, ring, lag, ticks, sink, holdoff, restore, \
-    statuses, fail, lost, frame, add, remove, client, operator, tick, carry, back, take, round, drain";
+    statuses, fail, lost, frame, stream, add, remove, client, operator, tick, carry, back, take, round, drain";
 
 /// Appends a line, with what `*` or `~` stands for.
 fn say_line(text: &mut Vec<u8>, line: &str) {

@@ -6,29 +6,31 @@ use Rattle.std.specs.Option.{option_map}
 use Rattle.std.specs.Prelude.{IfSome, suc, ◌&&◌}
 use Rattle.std.proofs.lemmas.Bool.{cases_lt, le-leb, leb-true, cases_Bool, and_parts}
 use Rattle.std.proofs.lemmas.List.Elements.{All-nil, All-cons}
-use Rattle.std.proofs.lemmas.List.Splits.{slice_split_at, slice_split_none, length-slice_split}
-use Rattle.law_rates.specs.Limits.{most_sizes, longest_frame}
+use Rattle.std.proofs.lemmas.List.Splits.{length-slice_split}
+use Rattle.law_rates.specs.Limits.{most_sizes, shortest_frame, longest_frame}
 use Rattle.law_rates.proofs.RateFrameLaws.{AreSizes}
 use Rattle.law_model.specs.Common.{IsWithin}
+use Rattle.text_lines.specs.Cut.{Lacks}
 use Rattle.text_lines.specs.WordsOfLine.{number_of}
+use Rattle.text_scripts.proofs.StreamWordLaws.{parts_cut as words_cut, parts_last as words_last}
 use Rattle.command_words.specs.CommandLineWords.{number_in, is_number}
-use Rattle.command_walk.specs.commands.Stream.{LacksComma, all_of, few_of, sizes_in, with_size}
+use Rattle.command_walk.specs.commands.Stream.{all_of, few_of, sizes_in, with_size}
 
 abbrev pub parts : List ℕ → List (Option ℕ)
-parts word = map (number_in 64 longest_frame) (slice_split (λ c. c == 44) word)
+parts word = map (number_in shortest_frame longest_frame) (slice_split (λ c. c == 44) word)
 
 abbrev pub joined : List ℕ → Option (List ℕ) → Option (List ℕ)
 joined sizes None = None
 joined sizes (Some others) = Some (sizes ++ others)
 
 -- ---- the parts of a word
-pub parts_cut : (word part later : List ℕ) → LacksComma part → word ≡ part ++ 44 ∷ later →
-    parts word ≡ number_in 64 longest_frame part ∷ parts later
+pub parts_cut : (word part later : List ℕ) → Lacks 44 part → word ≡ part ++ 44 ∷ later →
+    parts word ≡ number_in shortest_frame longest_frame part ∷ parts later
 parts_cut word part later lacks is =
-    ap parts is ∙ ap (map (number_in 64 longest_frame)) (slice_split_at (λ c. c == 44) part 44 later lacks refl)
+    ap (map (number_in shortest_frame longest_frame)) (words_cut word part later lacks is)
 
-pub parts_last : (word : List ℕ) → LacksComma word → parts word ≡ number_in 64 longest_frame word ∷ []
-parts_last word lacks = ap (map (number_in 64 longest_frame)) (slice_split_none (λ c. c == 44) word lacks)
+pub parts_last : (word : List ℕ) → Lacks 44 word → parts word ≡ number_in shortest_frame longest_frame word ∷ []
+parts_last word lacks = ap (map (number_in shortest_frame longest_frame)) (words_last word lacks)
 
 -- ---- one size more
 pub joined_none : (sizes : Option (List ℕ)) → sizes ≡ joined [] sizes
@@ -120,20 +122,20 @@ number-fits least most w =
 abbrev FitAll : ℕ → List ℕ → Type 0
 FitAll count sizes = (length sizes ≡ count) × AreSizes sizes
 
-size-fits : (n count : ℕ) (others : Option (List ℕ)) → IsWithin 64 longest_frame n → IfSome others (FitAll count) →
+size-fits : (n count : ℕ) (others : Option (List ℕ)) → IsWithin shortest_frame longest_frame n → IfSome others (FitAll count) →
     IfSome (option_map (λ ns. n ∷ ns) others) (FitAll (suc count))
 size-fits n count None a b = tt
-size-fits n count (Some ns) a b = (ap suc b.0, All-cons (λ size. (64 ≤ size) × (size ≤ longest_frame)) n ns a b.1)
+size-fits n count (Some ns) a b = (ap suc b.0, All-cons (λ size. (shortest_frame ≤ size) × (size ≤ longest_frame)) n ns a b.1)
 
-next-fits : (first : Option ℕ) (others : List (Option ℕ)) (count : ℕ) → IfSome first (IsWithin 64 longest_frame) →
+next-fits : (first : Option ℕ) (others : List (Option ℕ)) (count : ℕ) → IfSome first (IsWithin shortest_frame longest_frame) →
     IfSome (all_of others) (FitAll count) → IfSome (all_of (first ∷ others)) (FitAll (suc count))
 next-fits None others count a b = tt
 next-fits (Some n) others count a b = size-fits n count (all_of others) a b
 
-all-fit : (ws : List (List ℕ)) → IfSome (all_of (map (number_in 64 longest_frame) ws)) (FitAll (length ws))
-all-fit [] = (refl, All-nil (λ size. (64 ≤ size) × (size ≤ longest_frame)))
-all-fit (w ∷ ws) = next-fits (number_in 64 longest_frame w) (map (number_in 64 longest_frame) ws) (length ws)
-    (number-fits 64 longest_frame w) (all-fit ws)
+all-fit : (ws : List (List ℕ)) → IfSome (all_of (map (number_in shortest_frame longest_frame) ws)) (FitAll (length ws))
+all-fit [] = (refl, All-nil (λ size. (shortest_frame ≤ size) × (size ≤ longest_frame)))
+all-fit (w ∷ ws) = next-fits (number_in shortest_frame longest_frame w) (map (number_in shortest_frame longest_frame) ws) (length ws)
+    (number-fits shortest_frame longest_frame w) (all-fit ws)
 
 -- those of a rate
 abbrev pub FitRate : List ℕ → Type 0
@@ -150,5 +152,5 @@ few-fit (Some sizes) count some a =
 pub sizes-fit : (word : List ℕ) → IfSome (sizes_in word) FitRate
 sizes-fit word =
     let size = length-slice_split (λ c. c == 44) word in
-    few-fit (all_of (map (number_in 64 longest_frame) (slice_split (λ c. c == 44) word)))
+    few-fit (all_of (map (number_in shortest_frame longest_frame) (slice_split (λ c. c == 44) word)))
     (length (slice_split (λ c. c == 44) word)) (omega (arith, size)) (all-fit (slice_split (λ c. c == 44) word))

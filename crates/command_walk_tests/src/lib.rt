@@ -19,6 +19,8 @@ mod script_rows;
 #[cfg(test)]
 mod sink_rows;
 #[cfg(test)]
+mod stream_rows;
+#[cfg(test)]
 mod walk_commands;
 #[cfg(test)]
 mod walk_program;

@@ -134,7 +134,7 @@ fn faulty_rows() -> &'static str {
     walk;lines 2|delays 0 0|ring 1|lag 1|ticks 9|fail 0 1 2 0|statuses 16| => 5;;fault: line 7: order|\
         help: configuration stands before fail and lost|\n\
     walk;lines 2|delays 0 0|ring 1|lag 1|ticks 9|add 0 0|restore 3| => 5;;fault: line 7: order|\
-        help: configuration stands before frame, add and remove|\n\
+        help: configuration stands before frame, stream, add and remove|\n\
     walk;lines 2|delays 0 0|ring 1|lag 1|ticks 9|drain|holdoff x| => 5;;fault: line 7: order|\
         help: configuration stands before event lines|\n\
     walk;lines 2|delays 0 0|ring 1|lag 1|ticks 9|holdoff 3|ring 1| => 5;;fault: line 7: order|\

@@ -23,11 +23,11 @@ fn fault_rows() -> &'static str {
     lines 1|delays 0|ring 1|lag 1|ticks 9|container vc3 => 5;;fault: line 6: order|\
         help: configuration stands before fail and lost|\n\
     lines 1|delays 0|ring 1|lag 1|ticks 9|add 0 0|fail => 5;;fault: line 7: order|\
-        help: fail and lost stands before frame, add and remove|\n\
+        help: fail and lost stands before frame, stream, add and remove|\n\
     lines 1|delays 0|ring 1|lag 1|ticks 9|tick 1|lost 0 1 => 5;;fault: line 7: order|\
         help: fail and lost stands before event lines|\n\
     lines 1|delays 0|ring 1|lag 1|ticks 9|drain|add 0 0 => 5;;fault: line 7: order|\
-        help: frame, add and remove stands before event lines|\n\
+        help: frame, stream, add and remove stands before event lines|\n\
     lines 1|delays 0|ring 1|lag 1|ticks 9|Add 0 0 => 5;;fault: line 6: word|help: ~|\n\
     lines 1|delays 0|ring 1|lag 1|ticks 9|ticks9 => 5;;fault: line 6: word|help: ~|\n\
     lines => 5;;fault: line 1: word|help: lines takes 1 words, and 0 follow|\n\
@@ -65,7 +65,8 @@ fn fault_rows() -> &'static str {
     lines 1|delays 0|ring 1|lag 1|ticks 9|fail 0 0 x 2048 => 5;;fault: line 6: number|\
         help: word 4 is a number of one to ten digits|\n\
     lines 1|delays 0|ring 1|lag 1|ticks 9|lost 5 5 => 5;;fault: line 6: range|help: word 3 is from 6 to 6250000|\n\
-    lines 1|delays 0|ring 1|lag 1|ticks 9|lost 0 6250001 => 5;;fault: line 6: range|help: word 3 is from 1 to 6250000|\n\
+    lines 1|delays 0|ring 1|lag 1|ticks 9|lost 0 6250001 => 5;;fault: line 6: range|\
+        help: word 3 is from 1 to 6250000|\n\
     lines 1|delays 0|ring 1|lag 1|ticks 9|lost x 62501 => 5;;fault: line 6: number|\
         help: word 2 is a number of one to ten digits|\n\
     lines 1|delays 0|ring 1|lag 1|ticks 9|frame 9 abc => 5;;fault: line 6: range|help: word 2 is from 0 to 8|\n\

@@ -95,7 +95,7 @@ fn faulty_rows() -> &'static str {
     walk;lines 2|delays 0 0|ring 1|lag 1|ticks 9|lost 0 1|sink infers| => 5;;fault: line 7: order|\
         help: configuration stands before fail and lost|\n\
     walk;lines 2|delays 0 0|ring 1|lag 1|ticks 9|add 0 0|sink goes| => 5;;fault: line 7: order|\
-        help: configuration stands before frame, add and remove|\n\
+        help: configuration stands before frame, stream, add and remove|\n\
     walk;lines 2|delays 0 0|ring 1|lag 1|ticks 9|drain|sink stops| => 5;;fault: line 7: order|\
         help: configuration stands before event lines|\n\
     walk;lines 2|delays 0 0|ring 1|lag 1|ticks 9|sink stops|ticks 9| => 5;;fault: line 7: order|\

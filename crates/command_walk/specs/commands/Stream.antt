@@ -1,10 +1,10 @@
 -- `stream`: the script lines of a client that sends at a rate.
-use Rattle.std.specs.Prelude.{ℕ, ◌≡◌, ◌==◌, ◌&&◌, nat_le, nat_lt, false, List, [], ◌∷◌, ◌++◌, length, map, drop, codes}
-use Rattle.std.specs.Prelude.{bytes_eq, All, Option, Some, None, if◌then◌else◌}
+use Rattle.std.specs.Prelude.{ℕ, ◌==◌, ◌&&◌, nat_le, nat_lt, List, [], ◌∷◌, ◌++◌, length, map, drop, codes}
+use Rattle.std.specs.Prelude.{bytes_eq, Option, Some, None, if◌then◌else◌}
 use Rattle.std.specs.List.{slice_split}
 use Rattle.std.specs.Option.{option_map}
-use Rattle.law_model.specs.Common.{longest_input, longest_frame, most_ticks}
-use Rattle.law_rates.specs.Limits.{most_sizes}
+use Rattle.law_model.specs.Common.{longest_input, shortest_frame, longest_frame, most_ticks}
+use Rattle.law_rates.specs.Limits.{most_sizes, most_mbits}
 use Rattle.law_rates.specs.declared.rate_frames.Rate.{Rate}
 use Rattle.text_scripts.specs.rate_load.RateTexts.{rate_text}
 use Rattle.command_words.specs.CommandLineWords.{number_in}
@@ -27,16 +27,12 @@ few_of (Some sizes) = if nat_le (length sizes) most_sizes then Some sizes else N
 
 -- the sizes of a word: 1 to 16 numbers of 64 to 9,600 octets with commas between
 abbrev pub sizes_in : List ℕ → Option (List ℕ)
-sizes_in word = few_of (all_of (map (number_in 64 longest_frame) (slice_split (λ c. c == 44) word)))
+sizes_in word = few_of (all_of (map (number_in shortest_frame longest_frame) (slice_split (λ c. c == 44) word)))
 
 -- a size behind others, where it is one and there is room for it
 abbrev pub with_size : List ℕ → Option ℕ → Option (List ℕ)
 with_size sizes None = None
 with_size sizes (Some size) = if nat_le most_sizes (length sizes) then None else Some (sizes ++ size ∷ [])
-
--- a word without a comma
-abbrev pub LacksComma : List ℕ → Type 0
-LacksComma word = All (λ c. (c == 44) ≡ false) word
 
 -- ---- the rate
 -- the ticks of two numbers, the first of them before the second
@@ -58,7 +54,7 @@ rate_of None mbits ticks number = None
 abbrev pub numbers_in : List (List ℕ) → Option WalkCommand
 numbers_in ws =
     if length ws == 5 then
-    rate_of (sizes_in (word_at 0 ws)) (number_in 1 400000 (word_at 1 ws))
+    rate_of (sizes_in (word_at 0 ws)) (number_in 1 most_mbits (word_at 1 ws))
     (ticks_of (number_in 0 most_ticks (word_at 2 ws)) (number_in 0 most_ticks (word_at 3 ws)))
     (number_in 0 18446744073709551615 (word_at 4 ws))
     else None

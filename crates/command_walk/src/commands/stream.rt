@@ -1,42 +1,36 @@
 //! `stream`: the script lines of a client that sends at a rate are written.
-ghost use Rattle.std.specs.Prelude.{◌≡◌, ◌<◌, ◌∷◌, ◌++◌, length, None, IfSome, IfNone, map, string_bytes};
+ghost use Rattle.std.specs.Prelude.{◌≡◌, None, map, string_bytes};
+ghost use Rattle.law_rates.specs.Limits.{most_mbits};
 ghost use Rattle.law_rates.specs.Rates.{IsRate};
 ghost use Rattle.command_words.specs.CommandLineWords.{number_in};
 ghost use Rattle.command_parts.specs.Task.{makes};
 ghost use Rattle.command_parts.specs.Ends.{lent, no_source};
 ghost use Rattle.command_parts.specs.Gives.{GivesAlone};
-ghost use Rattle.command_walk.specs.commands.Stream.{LacksComma, sizes_in, with_size, ticks_of, rate_of, numbers_in};
+ghost use Rattle.command_walk.specs.commands.Stream.{sizes_in, with_size, ticks_of, rate_of, numbers_in};
 ghost use Rattle.command_walk.specs.commands.Stream.{stream_words, stream_answer};
-ghost use Rattle.law_model.specs.Common.{longest_frame, most_ticks};
+ghost use Rattle.law_model.specs.Common.{shortest_frame, longest_frame, most_ticks};
 
 use crate::command_of_words::WalkCommand;
 use command_parts::{Ran, Stop};
 use command_words::number_within;
 use law_model::{LONGEST_FRAME, MOST_TICKS};
 use law_rates::{MOST_SIZES, Rate, Sizes};
-use memchr::memchr;
 use octet_io::ByteSink;
+use text_lines::cut;
 use text_scripts::rate_load::{is_too_long, write_lines};
 use walk_engine::walk_core::Walk;
 
-/// What stands before and after the first comma of a word.
-fn cut(word: &[u8]) -> Option<(&[u8], &[u8])>
-    ensures before { IfSome result (λ parts. LacksComma parts.0.now) }
-    ensures some { IfSome result (λ parts. word.now ≡ parts.0.now ++ 44 ∷ parts.1.now) }
-    ensures none { IfNone result (LacksComma word.now) }
-    ensures moves { IfSome result (λ parts. length parts.1.now < length word.now) }
-{
-    let Some(end) = memchr(b',', word) else {
-        return None;
-    };
-    Some((&word[..end], &word[end + 1..]))
-}
+/// The most megabits a second.
+const MOST_MBITS: u64 = 400_000;
+
+/// The octets of the shortest frame.
+const SHORTEST_FRAME: u64 = 64;
 
 /// One size more, where a word is one and there is room for it.
 fn with_size(mut sizes: Sizes, word: &[u8]) -> Option<Sizes>
-    ensures { result ≡ with_size sizes (number_in 64 longest_frame word.now) }
+    ensures { result ≡ with_size sizes (number_in shortest_frame longest_frame word.now) }
 {
-    let size = number_within(word, 64, LONGEST_FRAME as u64)? as u16;
+    let size = number_within(word, SHORTEST_FRAME, LONGEST_FRAME as u64)? as u16;
     if sizes.len() == MOST_SIZES {
         return None;
     }
@@ -50,7 +44,7 @@ fn sizes_of(word: &[u8]) -> Option<Sizes>
 {
     let mut sizes = Sizes::new();
     let mut rest = word;
-    while let Some((part, later)) = cut(rest) {
+    while let Some((part, later)) = cut(rest, b',') {
         let Some(more) = with_size(sizes, part) else {
             return None;
         };
@@ -62,7 +56,8 @@ fn sizes_of(word: &[u8]) -> Option<Sizes>
 
 /// The ticks of two words, the first of them before the second.
 fn ticks_of(first: &[u8], end: &[u8]) -> Option<(u32, u32)>
-    ensures { result ≡ ticks_of (number_in 0 most_ticks first.now) (number_in 0 most_ticks end.now) }
+    ensures { result
+        ≡ ticks_of (number_in 0 most_ticks first.now) (number_in 0 most_ticks end.now) }
 {
     let first = number_within(first, 0, MOST_TICKS)? as u32;
     let end = number_within(end, 0, MOST_TICKS)? as u32;
@@ -80,11 +75,11 @@ fn rate_of(
     ticks: Option<(u32, u32)>,
     number: &[u8],
 ) -> Option<WalkCommand>
-    ensures { result ≡ rate_of (sizes_in sizes.now) (number_in 1 400000 mbits.now)
+    ensures { result ≡ rate_of (sizes_in sizes.now) (number_in 1 most_mbits mbits.now)
         ticks (number_in 0 18446744073709551615 number.now) }
 {
     let sizes = sizes_of(sizes)?;
-    let mbits = number_within(mbits, 1, 400_000)? as u32;
+    let mbits = number_within(mbits, 1, MOST_MBITS)? as u32;
     let (first, end) = ticks?;
     let number = number_within(number, 0, u64::MAX)?;
     Some(WalkCommand::Stream(Rate {
