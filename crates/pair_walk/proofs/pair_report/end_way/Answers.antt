@@ -12,12 +12,12 @@ returns g c =
     let s = counts_on c.args.pair.now.counts c.args.way in
     record {
       name = λ first has. c.finish.ensures.name ∙ (rest-lines g.K.ByteSink.written g.K.ByteSink.faults first c.args.got
-          c.write_rest.new.got leg s c.refusals.result.now c.totals.result c.refusals.ensures c.totals.ensures
+          c.write_rest.new.got leg s c.refusals.result c.totals.result c.refusals.ensures c.totals.ensures
           c.write_rest.ensures has).0;
       ok = λ first has. c.finish.ensures.ok first (report_of leg s)
           (rest-lines g.K.ByteSink.written g.K.ByteSink.faults first c.args.got c.write_rest.new.got leg s
-          c.refusals.result.now c.totals.result c.refusals.ensures c.totals.ensures c.write_rest.ensures has).1;
+          c.refusals.result c.totals.result c.refusals.ensures c.totals.ensures c.write_rest.ensures has).1;
       err = λ first has. c.finish.ensures.err first (report_of leg s)
           (rest-lines g.K.ByteSink.written g.K.ByteSink.faults first c.args.got c.write_rest.new.got leg s
-          c.refusals.result.now c.totals.result c.refusals.ensures c.totals.ensures c.write_rest.ensures has).1;
+          c.refusals.result c.totals.result c.refusals.ensures c.totals.ensures c.write_rest.ensures has).1;
     }
