@@ -287,5 +287,5 @@ way_headline script other is =
 pub pair_headline : (text : List ℕ) (pair : ScriptPair) → length text ≤ 67108864 → pair_of text ≡ Ok pair →
     IsPairHeadline text (way_text pair.there pair.back) (way_text pair.back pair.there)
 pair_headline text pair short said =
-    let fits = valid_pair text pair short said in
+    let fits = valid_pair text pair said in
     (pair, said, way_headline pair.there pair.back fits.there_way, way_headline pair.back pair.there fits.back_way)

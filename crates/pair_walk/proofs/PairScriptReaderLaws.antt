@@ -45,11 +45,11 @@ use Rattle.text_lines.proofs.TextLineAndWordLaws.{or_none, where_none, map_none}
 use Rattle.law_pair.specs.Common.{IsPair}
 use Rattle.text_scripts.proofs.ScriptLineAndFirstFaultLaws.{split}
 use Rattle.text_lines.specs.Cut.{Lacks}
-use Rattle.text_lines.proofs.TextLineAndWordLaws.{lines_last, lines_few}
+use Rattle.text_lines.proofs.TextLineAndWordLaws.{lines_last}
 use Rattle.text_scripts.specs.script_read.Drafts.{IsDraft}
 use Rattle.text_scripts.proofs.ScriptLineAndFirstFaultLaws.{whole_config}
 use Rattle.text_scripts.proofs.StatementAndWordFaultLaws.{fits_words}
-use Rattle.text_scripts.proofs.ScriptDraftGrowthLaws.{IsDraft-first, IsDraft-after, items_after, IsUntested-draft}
+use Rattle.text_scripts.proofs.ScriptDraftGrowthLaws.{IsDraft-first, IsDraft-after, IsUntested-draft}
 use Rattle.text_scripts.specs.declared.script_read.script_fault.ScriptFault.TheVariants as script
 use Rattle.pair_walk.specs.declared.pair_script.script_pair.PairFault.TheVariants as fault
 use Rattle.command_parts.specs.declared.stop_and_status.Stop.TheVariants as stop
@@ -552,48 +552,32 @@ text_fails reader text piece f stands told = or_then told (λ fails. ap pair_of_
 
 -- ---- What lines without a fault say is two scripts that make a pair.
 -- ---- halves line by line
--- a script before the line that divides is whole, and the one that goes on has at most so many items
-record AreRead (most : ℕ) (h : Halves) : Type 0 where
+-- a script before the line that divides is whole
+record AreRead (h : Halves) : Type 0 where
   there : IfSome h.there IsUntested
   now : IsDraft h.now
-  few : length h.now.items ≤ most
 
-line_read : (most : ℕ) (h : Halves) (ws : List (List ℕ)) → most ≤ 67108864 → AreRead most h →
-    half_fault h ws ≡ None → AreRead (most + 1) (half_after h ws)
-line_read most h ws low is none =
+line_read : (h : Halves) (ws : List (List ℕ)) → AreRead h → half_fault h ws ≡ None → AreRead (half_after h ws)
+line_read h ws is none =
     elim (cases_Bool (divides h ws)) [
       | inl splits ↦
           let whole = map_none of_script (missing_line h.now) (divide_fault h ws (sym splits) ∙ none) in
-          let few = is.few in
-          subst (AreRead (most + 1)) (divide_after h ws (sym splits))
-          (record {
-            there = IsUntested-draft h.now is.now (whole_config h.now whole) (omega (arith, few, low));
-            now = IsDraft-first;
-            few = omega arith;
-          })
+          subst AreRead (divide_after h ws (sym splits))
+          (record { there = IsUntested-draft h.now is.now (whole_config h.now whole); now = IsDraft-first })
       | inr stays ↦
           let sound = map_none of_script (words_fault h.now ws) (plain_fault h ws (sym stays) ∙ none) in
-          let one = items_after h.now (words_said ws) in
-          let few = is.few in
-          subst (AreRead (most + 1)) (plain_after h ws (sym stays))
+          subst AreRead (plain_after h ws (sym stays))
           (record {
             there = is.there;
             now = IsDraft-after h.now (words_said ws) is.now (fits_words h.now ws is.now sound);
-            few = omega (arith, one, few);
           })
     ]
 
-lines_read : (ls : List (List ℕ)) (most : ℕ) (h now : Halves) → most + length ls ≤ 67108864 → AreRead most h →
-    AreSound pair_lines h ls now → AreRead (most + length ls) now
+lines_read : (ls : List (List ℕ)) (h now : Halves) → AreRead h → AreSound pair_lines h ls now → AreRead now
 unfolding AreSound
-lines_read [] most h now low is sound =
-    let same : most ≡ most + 0 = omega arith in
-    subst (λ (n : ℕ). AreRead n now) same (subst (AreRead most) sound is)
-lines_read (l ∷ ls) most h now low is sound =
-    let same : most + 1 + length ls ≡ most + length (l ∷ ls) = omega arith in
-    subst (λ (n : ℕ). AreRead n now) same
-    (lines_read ls (most + 1) (half_after h (words l)) now (omega (arith, low))
-    (line_read most h (words l) (omega (arith, low)) is sound.0) sound.1)
+lines_read [] h now is sound = subst AreRead sound is
+lines_read (l ∷ ls) h now is sound =
+    lines_read ls (half_after h (words l)) now (line_read h (words l) is sound.0) sound.1
 
 -- ---- at the end
 -- both scripts are there
@@ -602,31 +586,25 @@ there_read : (there : Option Script) → IfSome there IsUntested → is_none the
 there_read (Some there) is some = is
 there_read None is some = absurd cc
 
-ends_paired : (most : ℕ) (h : Halves) (pair : ScriptPair) (found : Option PairFault) → most ≤ 67108864 →
-    AreRead most h → half_missing h ≡ None → limits_fault (pair_in h) ≡ found →
-    pair_unless found (pair_in h) ≡ Ok pair → IsPair pair.there pair.back
-ends_paired most h pair None low is none found said =
+ends_paired : (h : Halves) (pair : ScriptPair) (found : Option PairFault) → AreRead h → half_missing h ≡ None →
+    limits_fault (pair_in h) ≡ found → pair_unless found (pair_in h) ≡ Ok pair → IsPair pair.there pair.back
+ends_paired h pair None is none found said =
     let same : pair_in h ≡ pair = cc in
     let parts = or_none (option_map of_script (missing_line h.now)) (where_true (is_none h.there) no_division) none in
     let whole = whole_config h.now (map_none of_script (missing_line h.now) parts.0) in
-    let few = is.few in
     subst (λ (p : ScriptPair). IsPair p.there p.back) same
     (pair_fits (pair_in h) (there_read h.there is.there (where_none (is_none h.there) no_division parts.1))
-    (IsUntested-draft h.now is.now whole (omega (arith, few, low))) found)
-ends_paired most h pair (Some fault) low is none found said = absurd cc
+    (IsUntested-draft h.now is.now whole) found)
+ends_paired h pair (Some fault) is none found said = absurd cc
 
 -- ---- the text
-said_pair : (text : List ℕ) (pair : ScriptPair) (of : Result Halves (ℕ × HalfFault)) → length text ≤ 67108864 →
-    said_by pair_lines text ≡ of → pair_of_halves of ≡ Ok pair → IsPair pair.there pair.back
-said_pair text pair (Ok h) short is said =
+said_pair : (text : List ℕ) (pair : ScriptPair) (of : Result Halves (ℕ × HalfFault)) → said_by pair_lines text ≡ of →
+    pair_of_halves of ≡ Ok pair → IsPair pair.there pair.back
+said_pair text pair (Ok h) is said =
     let are = (all_said pair_lines text h).0 is in
-    let less = lines_few text in
-    let read = lines_read (lines text) 0 nothing_said h (omega (arith, less, short))
-    (record { there = tt; now = IsDraft-first; few = omega arith }) are.sound in
-    ends_paired (0 + length (lines text)) h pair (limits_fault (pair_in h)) (omega (arith, less, short)) read are.whole
-    refl said
-said_pair text pair (Err at) short is said = absurd cc
+    let read = lines_read (lines text) nothing_said h (record { there = tt; now = IsDraft-first }) are.sound in
+    ends_paired h pair (limits_fault (pair_in h)) read are.whole refl said
+said_pair text pair (Err at) is said = absurd cc
 
-pub valid_pair : (text : List ℕ) (pair : ScriptPair) → length text ≤ 67108864 → pair_of text ≡ Ok pair →
-    IsPair pair.there pair.back
-valid_pair text pair short said = said_pair text pair (said_by pair_lines text) short refl said
+pub valid_pair : (text : List ℕ) (pair : ScriptPair) → pair_of text ≡ Ok pair → IsPair pair.there pair.back
+valid_pair text pair said = said_pair text pair (said_by pair_lines text) refl said

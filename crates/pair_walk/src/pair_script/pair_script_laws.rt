@@ -1,10 +1,9 @@
 //! What the definition of the language means, apart from how it computes.
-ghost use Rattle.std.specs.Prelude.{◌≡◌, ◌↔◌, ◌≤◌, ℕ, List, length, Ok, Err};
+ghost use Rattle.std.specs.Prelude.{◌≡◌, ◌↔◌, ℕ, List, Ok, Err};
 ghost use Rattle.std.specs.Str.Lines.{lines};
 ghost use Rattle.text_lines.specs.FirstFault.{IsFirstFault};
 ghost use Rattle.text_scripts.specs.declared.script_read.script_fault.LineFault.{LineFault};
 ghost use Rattle.text_scripts.specs.declared.script_read.script_fault.ScriptFault.TheVariants.{Line};
-ghost use Rattle.law_model.specs.Common.{longest_input};
 ghost use Rattle.law_pair.specs.Common.{IsPair};
 ghost use Rattle.pair_walk.specs.declared.pair_script.script_pair.PairFault.{PairFault};
 ghost use Rattle.pair_walk.specs.declared.pair_script.script_pair.ScriptPair.{ScriptPair};
@@ -22,9 +21,9 @@ pub fn fault_law()
         ↔ IsFirstFault pair_lines 1 nothing_said (lines text) number no_division }
 {}
 
-/// A text of at most 67,108,864 octets that says two scripts says a pair: each of them can be walked, neither loses
-/// return packets by itself or has event lines, their lags are the same and at most 256, and their ticks are the same.
+/// A text that says two scripts, however long, says a pair: each of them can be walked, neither loses return packets by
+/// itself or has event lines, their lags are the same and at most 256, and their ticks are the same.
 pub fn valid_law()
-    ensures { (text : List ℕ) (pair : ScriptPair) → length text ≤ longest_input →
-        pair_of text ≡ Ok pair → IsPair pair.there pair.back }
+    ensures { (text : List ℕ) (pair : ScriptPair) → pair_of text ≡ Ok pair →
+        IsPair pair.there pair.back }
 {}
