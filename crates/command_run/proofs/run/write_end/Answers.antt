@@ -12,7 +12,7 @@ told : (g : given.Over) (c : After-finish-back g) (script : Script) → HasEnded
     HasText g.K.ByteSink.written g.K.ByteSink.faults c.write_rest.new.got
     (start_at g.K.ByteSink.written g.K.ByteSink.faults c.args.out.now (name_of c.new-got.result)) (end_text script)
 told g c script ended =
-    end-written g.K.ByteSink.written g.K.ByteSink.faults c.new-got.result c.write_rest.new.got _ c.refusals.result.now
+    end-written g.K.ByteSink.written g.K.ByteSink.faults c.new-got.result c.write_rest.new.got _ c.refusals.result
     c.totals.result script (c.refusals.ensures ∙ ended.group.refusals) (c.totals.ensures script ended)
     c.new-got.ensures.fresh c.write_rest.ensures
 
