@@ -81,10 +81,11 @@ make_trial() {
     "$1" $first < "$top/examples/one_line.vcat" 2> /dev/null | cmp -s - "$top/examples/one_line.stdout"
 }
 
-# The process that runs the file $1, if there is one. Only of those of whoever calls, since its words are run.
+# The process that runs the file $1, if there is one. Only of those of whoever calls, since its words are run, and with the file in its memory: a
+# program that takes another's rights counts as the caller's too.
 process_of() {
     for each in /proc/[0-9]*; do
-        if [ -O "$each" ] && { tr '\0' '\n' < "$each/cmdline"; } 2> /dev/null | grep -Fqx -e "$1"; then
+        if [ -O "$each" ] && grep -Fqs -e " $1" "$each/maps" && { tr '\0' '\n' < "$each/cmdline"; } 2> /dev/null | grep -Fqx -e "$1"; then
             echo "$each"
             return
         fi
