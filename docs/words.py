@@ -1,7 +1,7 @@
 #!/usr/bin/env python3
 """Compares the words that the script vcat knows of with those of the programs, and says on standard error what isn't right; .ci/docs runs it.
 
-- The commands of vcat are those of the usages of the programs, with view and the commands of tools/, and docs/COMMANDS.md tells of each.
+- The commands of vcat are those of the usages of the programs, with view, report, phases and the commands of tools/, and docs/COMMANDS.md tells of each.
 - Each word of a command that is a number has its range there.
 - The lines of each language are those that its crate has a keyword for.
 """
@@ -44,7 +44,7 @@ def main():
         usage = re.search(rf'"usage: {program} (.*?)\\n"', text(f"crates/{place}"))[1]
         mine = set()
         for crate, form in commands:
-            if crate == program and form != "view":
+            if crate == program and form.split()[0] not in ("view", "report", "phases"):
                 mine |= {re.sub(r" \[\w+\]", "", form), re.sub(r"[\[\]]", "", form)}
         compare(f"the commands of {program} in vcat", mine, re.split(r", or |, | or ", usage))
         for word in re.findall(r"\b[A-Z]+\b", usage):

@@ -73,7 +73,7 @@ pack() {
     mkdir -p "$1/bin" "$1/view" "$1/tools" || return
     for name in vcat_walk vcat_run; do cp "$(standing "$name")" "$1/bin/$name" || return; done
     cp "$top/vcat" "$top/README.md" "$top/CHANGELOG.md" "$top/LICENSE" "$1" &&
-        cp -R "$top/docs" "$top/examples" "$1" && cp "$top"/view/*.* "$1/view" && cp "$top/tools/pack.sh" "$1/tools" || return
+        cp -R "$top/docs" "$top/examples" "$1" && cp "$top"/view/*.* "$1/view" && cp "$top/tools/pack.sh" "$top/tools/report.sh" "$1/tools" || return
     rm -f "$1"/docs/*.py
     version > "$1/VERSION" && manual > "$1/vcat.1" && completion > "$1/vcat.bash"
 }
