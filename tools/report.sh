@@ -101,8 +101,9 @@ report() {
             if ($1 != told || $2 + 0 != told_due) commands++
             told = $1
             told_due = $2 + 0
-            lines_told[commands] = lines_told[commands] " " line
-            command_told[commands] = told ":%s at " ms(told_due)
+            if (++told_of[commands] <= 128) lines_told[commands] = lines_told[commands] " " line
+            command_told[commands] = told
+            time_told[commands] = ms(told_due)
         }
         function fail(line, first, end, slip, i) {
             i = ++fails[line]
@@ -149,6 +150,7 @@ report() {
             if (total[31] != ticks || total[33] != ticks) print "  by its event lines " total[31] " ticks are made and " total[33] " rows taken"
             tell_settings()
             print "\nMembers and capacity"
+            if (!stairs) print "  none"
             show_table("capacity")
             if (frames) tell_throughput()
             print "\nOutages"
@@ -181,7 +183,8 @@ report() {
             show("failures")
             show("lost")
             for (i = 1; i <= commands; i++)
-                add("commands", sprintf(command_told[i], (lines_told[i] ~ / .* / ? " lines" : " line") lines_told[i]))
+                add("commands", command_told[i] ": line" (told_of[i] > 1 ? "s" : "") lines_told[i] \
+                    (told_of[i] > 128 ? " and " told_of[i] - 128 " more" : "") " at " time_told[i])
             show("commands")
         }
         function tell_throughput(i, j, from, to, text, fates) {
@@ -296,7 +299,7 @@ END
     fi
     if [ "$(grep -c '^service' "$work/phases")" -ne "$(wc -l < "$work/plan")" ]; then refuse "not each phase has an answer." 126; fi
     called=$called ticks=$4 awk "$words_of"'
-        function cell(kind, value) { if (kind ~ / ms$/) { value = ms(value); sub(/ ms$/, "", value) } return value }
+        function cell(kind, value) { if (kind !~ / ms$/) return sprintf("%.0f", value); value = ms(value); sub(/ ms$/, "", value); return value }
         function tell(kind, column, i, j, v, sorted, at) {
             for (i = 1; i <= phases; i++) {
                 v = value[i, column] + 0
