@@ -45,7 +45,11 @@ _vcat() {
     case \$COMP_CWORD,\${COMP_WORDS[1]} in
     1,*) words="$(commands | awk '{ print $3 }' | tr '\n' ' ')help --version" ;;
 END
-    commands | awk 'match($0, /\[[^]]*\]/) { print "    2," $3 ") words=\"" substr($0, RSTART + 1, RLENGTH - 2) "\" ;;" }'
+    commands | awk 'match($0, /\[[^]]*\]/) {
+        words = substr($0, RSTART + 1, RLENGTH - 2)
+        gsub(/[|]/, " ", words)
+        print "    2," $3 ") words=\"" words "\" ;;"
+    }'
     cat << 'END'
     esac
     mapfile -t COMPREPLY < <(compgen -W "$words" -- "$word")

@@ -103,8 +103,13 @@ Life.control = (() => {
     });
     window.addEventListener("hashchange", () => {
       if (!page.lay || location.hash === page.written) return;
-      page.fromFragment();
-      page.resize();
+      if (page.model.way && page.model.way !== page.wayNamed()) {
+        page.showWay();
+        page.repaint();
+      } else {
+        page.fromFragment();
+        page.resize();
+      }
       byId("bar").scrollIntoView({ block: "nearest" });
     });
   }
@@ -137,6 +142,7 @@ Life.control = (() => {
     }
     /* A new script drops the texts of the one before. */
     texts = found.script ? found : { ...texts, ...found };
+    page.ways = {};
     page.show(texts);
     page.repaint();
     if (!unknown.length) return;
@@ -163,14 +169,23 @@ Life.control = (() => {
     });
   }
 
+  /* The texts that the page has, by what their names begin with. */
+  function textsOf(way) {
+    const found = {};
+    for (const name of ["name", ...KINDS]) {
+      const text = embedded(way + name);
+      if (text !== null) found[name] = name === "name" ? text.trim() : text;
+    }
+    return found;
+  }
+
   function start() {
     watchErrors();
-    for (const name of ["name", ...KINDS]) {
-      const text = embedded(name);
-      if (text !== null) texts[name] = name === "name" ? text.trim() : text;
-    }
+    texts = textsOf("");
+    const back = textsOf("back-");
+    page.ways = Object.keys(back).length ? { there: { ...texts, way: "there" }, back: { ...back, way: "back" } } : { there: texts };
     Life.paint.readColours();
-    if (Object.keys(texts).length) page.show(texts);
+    if (Object.keys(texts).length) page.showWay();
     Life.legend.show(page.model);
     watchChart(byId("stack"));
     watchStrip(byId("over"));

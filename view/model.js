@@ -95,7 +95,7 @@ Life.model = (() => {
     const faults = [], script = readScript(texts.script || "", faults);
     const note = noteOf(texts, script);
     const read = (text, reader, none) => (nothing(text) || /^(fault|usage): /.test(text) ? none : reader(text));
-    const model = { name: texts.name || "script", script, faults, note, ticks: Math.max(1, script.ticks || 0) };
+    const model = { name: texts.name || "script", way: texts.way || "", script, faults, note, ticks: Math.max(1, script.ticks || 0) };
     model.trace = read(texts.trace, (t) => readTrace(t, script.lines, faults), readTrace("", script.lines, faults));
     model.fates = read(texts.fates, (t) => readFates(t, faults), noFates());
     model.service = read(texts.service, (t) => readService(t, faults), noService());

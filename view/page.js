@@ -1,5 +1,5 @@
 "use strict";
-/* What is shown: the walk, the part of it in sight, what is held; and moving, zooming and holding. */
+/* What is shown: the walk, or one way of a pair, the part of it in sight, what is held; and moving, zooming and holding. */
 Life.page = (() => {
   const { byId, number, count, range, milliseconds, escapeHtml, firstWhere, runAt, packetOf, clamp } = Life.basics;
   const { fit } = Life.paint;
@@ -9,7 +9,7 @@ Life.page = (() => {
     "<kbd>N</kbd> <kbd>P</kbd> from mark to mark, <kbd>Esc</kbd> to let go";
   const hint = () => (page.lay.narrow ? "Touch anything to see what it is. Drag to move, part two fingers to zoom." :
     "Point at anything to see what it is; a click holds it. Drag or " + KEYS + (byId("tall").hidden ? "." : ", <kbd>L</kbd> for tall lanes."));
-  const page = { model: null, lay: null, view: { start: 0, end: 1 }, hold: null, tall: false, width: 0, pointer: null, places: new Map(),
+  const page = { ways: {}, model: null, lay: null, view: { start: 0, end: 1 }, hold: null, tall: false, width: 0, pointer: null, places: new Map(),
     times: [], written: "" };
   let pending = false, timer = 0, canvases = {}, strip = null;
 
@@ -20,6 +20,10 @@ Life.page = (() => {
 
   /* ---- Showing texts ---- */
 
+  /* The way of a pair that the fragment names: the first, but where it is the other one. */
+  page.wayNamed = () => (new URLSearchParams(location.hash.slice(1)).get("way") === "back" && page.ways.back ? "back" : "there");
+  page.showWay = () => page.show(page.ways[page.wayNamed()]);
+
   page.show = (texts) => {
     const m = page.model = Life.model.modelOf(texts);
     document.title = m.name + " \u2013 life of a group";
@@ -29,6 +33,8 @@ Life.page = (() => {
     for (const id of ["bar", "over", "stack", "detail", "legend", "losses", "spoken"]) byId(id).hidden = !m.drawable;
     byId("chart").hidden = m.note !== null;
     byId("empty").hidden = m.drawable;
+    byId("ways").hidden = !page.ways.back;
+    for (const a of byId("ways").children) if (a.dataset.way === m.way) a.setAttribute("aria-current", "true"); else a.removeAttribute("aria-current");
     Life.tables.showHead(m);
     page.lay = null;
     if (!m.drawable) return;
@@ -107,11 +113,13 @@ Life.page = (() => {
     const { view, model, hold, tall } = page, a = Math.round(view.start), b = Math.round(view.end), parts = [];
     if (a > 0 || b < model.ticks) parts.push("at=" + a + "-" + b);
     if (tall) parts.push("lanes=tall");
+    for (const link of byId("ways").children) link.hash = ["way=" + link.dataset.way, ...parts].join("&");
+    if (model.way === "back") parts.unshift("way=back");
     if (hold) parts.push("hold=" + hold);
     page.written = parts.length ? "#" + parts.join("&") : "";
     if (location.hash !== page.written) history.replaceState(null, "", location.pathname + location.search + page.written);
     const frames = Object.entries(drawn.frames).map(([fate, n]) => number(n) + " " + Life.words.FATE_WORDS[fate]).join(", ");
-    const text = "Ticks " + number(a) + " to " + number(b - 1) + ". Frames: " + (frames || "none") + ". " +
+    const text = (model.way ? model.way.replace(/^./, (c) => c.toUpperCase()) + ". " : "") + "Ticks " + number(a) + " to " + number(b - 1) + ". Frames: " + (frames || "none") + ". " +
       (model.told ? count(drawn.spoiled, "row") + " spoiled. " : "") +
       (drawn.service.outages ? count(drawn.service.outages, "outage") + ". " : "") + (drawn.fails ? count(drawn.fails, "failure") + ". " : "") +
       (drawn.lost ? count(drawn.lost, "lost return packet") + ". " : "") + count(drawn.commands, "command") + ".";

@@ -43,7 +43,7 @@ Life.tables = (() => {
     if (totals) cells.push(["Queue", number(totals.queue), totals.queue ? "at most, tick " + number(totals.fullest) : "at most"]);
     if (delays) {
       cells.push(["Delay", number(delays.greatest), "at most, 99\u2009% " + number(delays.most) + ", half " + number(delays.half) + ", least " +
-        number(delays.least)]);
+        number(delays.least) + (delays.path > 0 ? "; path " + number(delays.path) : "")]);
     }
     return cells;
   }
@@ -109,7 +109,7 @@ Life.tables = (() => {
   function rowHtml(m, r) {
     const span = Math.min(m.ticks, Math.max(200, 2 * (r.to - r.from))), middle = Math.round((r.from + r.to - span) / 2);
     const start = Math.max(0, Math.min(m.ticks - span, middle)), cell = (name, text) => '<td class="n" data-k="' + name + '">' + text + "</td>";
-    const link = '<a href="#at=' + start + "-" + (start + span) + "&amp;hold=" + r.hold + '">' + range(r.item, r.end) + "</a>";
+    const link = '<a href="#' + (m.way === "back" ? "way=back&amp;" : "") + "at=" + start + "-" + (start + span) + "&amp;hold=" + r.hold + '">' + range(r.item, r.end) + "</a>";
     const ms = milliseconds(r.due) + (r.last === r.due ? "" : "\u2013" + milliseconds(r.last));
     return '<tr data-hold="' + r.hold + '" data-end="' + r.end + '">' + cell("Item", link) + cell("due", range(r.due, r.last)) + cell("ms", ms) +
       cell("octets", r.octets) + cell("rows", r.rows) + '<td class="f"><canvas data-icon="' + r.icon + '" aria-hidden="true"></canvas>' + r.word +

@@ -191,7 +191,7 @@ Life.texts = (() => {
     members: /^members (\d+) (\d+) (\d+) (\d+)$/,
     outage: /^outage (\d+) (\d+) spoiled (\d+) lost (\d+) (\d+) (container|packet)(?: (\d+))?$/,
     stretch: new RegExp("^stretch " + COUNTS + "$"),
-    delays: /^delays least (\d+) half (\d+) most (\d+) greatest (\d+)$/,
+    delays: /^delays least (\d+) half (\d+) most (\d+) greatest (\d+)(?: path (\d+))?$/,
     service: new RegExp("^service " + COUNTS + " outages (\\d+) waits (\\d+) (\\d+) ticks (\\d+) taken (\\d+) starts (true|false)$"),
   };
 
@@ -209,7 +209,7 @@ Life.texts = (() => {
         service.outages.push({ first: +w[1], end: +w[2], spoiled: +w[3], lost: { frames: +w[4], octets: +w[5] }, cause: w[6], line: optional(w[7]) });
         break;
       case "stretch": service.stretches.push(countsOf(w)); break;
-      case "delays": service.delays = { least: +w[1], half: +w[2], most: +w[3], greatest: +w[4] }; break;
+      case "delays": service.delays = { least: +w[1], half: +w[2], most: +w[3], greatest: +w[4], path: optional(w[5]) }; break;
       default: service.totals = { ...countsOf(w), outages: +w[16], waits: +w[17], ticks: +w[19], taken: +w[20] };
     }
   }

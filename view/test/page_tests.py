@@ -8,6 +8,7 @@ import base64
 import json
 import os
 import re
+import subprocess
 import sys
 import tempfile
 import time
@@ -68,7 +69,7 @@ class Tests:
         self.same(name + ": totals", {key: cells.get(key, [None])[0] for key in numbers}, numbers)
         queue, delays = head(texts)
         self.same(name + ": the greatest queue", cells.get("Queue"), queue if queue[0] else [0])
-        self.same(name + ": delays", cells.get("Delay"), [delays[3], 99, *delays[2::-1]])
+        self.same(name + ": delays", cells.get("Delay"), [delays[3], 99, *delays[2::-1], *filter(None, delays[4:])])
         self.same(name + ": the interval of its stretches", self.pages.read("interval"), interval(texts) + "\n")
         self.same(name + ": premise", b.js("document.getElementById('premise').className"), "" if starts else "bad")
         told = b.js("[...document.querySelectorAll('td.f')].map(e => +(/([\\d,]+) frames/.exec(e.textContent) || [0, '1'])[1].replace(/,/g, ''))")
@@ -474,6 +475,50 @@ class Tests:
             self.same(what + " with HTML", (b.js("document.images.length"), b.js("document.title")), (0, "script \u2013 life of a group"))
             self.same(what + " with HTML is told", "Line " in b.js(FAULTS), True)
 
+    def pair(self, program):
+        """A page of a pair has both ways, each as its own script has it, and a link to the other, which a keyboard reaches; the place stays."""
+        b, texts = self.browser, {}
+        with open(os.path.join(TOP, "examples/pair_failure.vcat"), "rb") as script:
+            pair = script.read()
+        for way in ("there", "back"):
+            done = subprocess.run([program, "pair", way], input=pair, capture_output=True)
+            texts[way] = walked(program, done.stdout)
+        path, notes, status = self.pages.of_program("pair", program, pair)
+        self.same("a pair: view", (notes, status), ("", 0))
+        b.open(path, "#at=100-200")
+
+        def shown():
+            b.settle()
+            drawn = json.loads(b.js("document.getElementById('plot').dataset.drawn"))
+            current = b.js("document.querySelector('#ways [aria-current]').textContent")
+            return b.js("document.getElementById('name').textContent"), current, b.js(RANGE), b.js(FAULTS), drawn["fails"] + drawn["lost"]
+        place = "Ticks 100\u2013199"
+        self.same("a pair: the way there", shown(), ("pair: there", "There", place, "", 0))
+        links = [node for node in b.call("Accessibility.getFullAXTree")["nodes"] if node.get("role", {}).get("value") == "navigation"]
+        self.same("a pair: the links have a name", [node["name"]["value"] for node in links], ["Ways of the pair"])
+        b.js("document.querySelector('#ways a:not([aria-current])').focus()")
+        b.key("Enter")
+        self.same("a pair: the way back", shown(), ("pair: back", "Back", place, "", 0))
+        self.same("a pair: the fragment has the way", b.js("location.hash"), "#way=back&at=100-200")
+        self.same("a pair: what is said", b.js("document.getElementById('said').textContent")[:17], "Back. Ticks 100 t")
+        b.key("0")
+        self.same("a pair: its failure", shown()[2:], ("Ticks 0\u2013312", "", 1))
+        self.picture("pair-1280")
+        for way in ("there", "back"):
+            b.open(path, "#way=" + way)
+            b.settle()
+            drawn, wanted = json.loads(b.js("document.getElementById('plot').dataset.drawn")), expected(texts[way])
+            for key in wanted:
+                self.same("a pair: %s: %s" % (way, key), drawn[key], wanted[key])
+        b.size(400, 800)
+        b.settle()
+        self.same("a pair: the chart begins in the upper third at 400", b.js("document.getElementById('chart').getBoundingClientRect().top < 267"), True)
+        b.size(1280)
+        path, _, status = self.pages.of_program("pair", program, pair.replace(b"lag 1", b"lag 2", 1))
+        b.open(path)
+        told = "fault: pair lag 2 1" in b.js(FAULTS), b.js("document.getElementById('ways').hidden")
+        self.same("a pair that is refused", (status, told), (6, (True, True)))
+
     # ---- How long it takes ----
 
     def speed(self, name, texts):
@@ -524,6 +569,7 @@ def run(tests, program):
                  tests.without_fates, tests.without_service, tests.refused, tests.dropped, tests.markup):
         test(example)
     tests.options(texts["statuses"])
+    tests.pair(program)
     tests.cut(example, texts["slip"])
     for name, large in (("made", made()), ("bursts", walked(program, bursts()))):
         tests.counts(name, large)

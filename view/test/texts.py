@@ -206,7 +206,16 @@ service) echo "$2" > interval; cat service; exit %d ;;
 esac
 """ % (self.folder.encode(), trace_status, 2 if texts["fates"] is None else fates_status, 2 if texts["service"] is None else service_status))
         os.chmod(self.program, 0o755)
-        self.write(name + ".vcat", texts["script"])
+        return self.view(name, texts["script"])
+
+    def of_program(self, name, program, script):
+        """The same of what a program answers."""
+        self.write("crates/vcat_walk/out/vcat_walk", b'#!/bin/sh\nexec "%s" "$@"\n' % program.encode())
+        os.chmod(self.program, 0o755)
+        return self.view(name, script)
+
+    def view(self, name, script):
+        self.write(name + ".vcat", script)
         path = os.path.join(self.folder, name + ".html")
         with open(path, "wb") as out:
             done = subprocess.run([os.path.join(self.folder, "vcat"), "view", os.path.join(self.folder, name + ".vcat")], stdout=out,
@@ -320,7 +329,7 @@ def served(draw, ticks, spoiled, frames):
     text += ["outage %d %d spoiled %d lost %d %d container 3" % (first, end, end - first, n % 90, 64 * (n % 90))
              for n, (first, end) in enumerate(spoiled)]
     text += [line("stretch", [n], wide * n, wide * n + wide, queue[n]) for n in range(200)]
-    text.append("delays least 0 half 60 most 60 greatest 60")
+    text.append("delays least 0 half 60 most 60 greatest 60")  # without a path, as older programs write it
     waits = sum(fate == "waits" for fate, _, _ in frames)
     fullest = max(queue, key=lambda most: (most[0], -most[1]))
     text.append(line("service", range(200), 0, ticks, fullest) +
