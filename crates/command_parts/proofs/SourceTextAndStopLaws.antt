@@ -68,10 +68,10 @@ module _ {S : Type 0} (left : S → Option (List ℕ)) (faults : S → ℕ) wher
       IsTaken left faults start old all room → StopsTaking (lent left faults old new) room stop →
       StopsReading (lent left faults start new) answer stop
   stops_taking start old new all room answer Read taken stops = stops ∙ ap one_more taken.quiet
-  stops_taking start old new all room answer TooLong taken stops = record {
+  stops_taking start old new all room answer TooLong taken stops = inl (record {
     much = long_more all room (left old) (left start) taken.given taken.size stops.0;
     quiet = stops.1 ∙ taken.quiet;
-  }
+  })
   stops_taking start old new all room answer (Refused it) taken stops = absurd stops
   stops_taking start old new all room answer Write taken stops = absurd stops
   stops_taking start old new all room answer Memory taken stops = stops ∙ taken.quiet
@@ -80,7 +80,7 @@ module _ {S : Type 0} (left : S → Option (List ℕ)) (faults : S → ℕ) wher
 pub stops_read : {S : Type 0} (source : Lent S) (answer : List ℕ → Answer) (text : List ℕ) (stop : Stop) →
     HasRead source text → StopsFor (answer text) stop → StopsReading source answer stop
 stops_read source answer text Read read stops = absurd stops
-stops_read source answer text TooLong read stops = absurd stops
+stops_read source answer text TooLong read stops = inr (text, read, stops)
 stops_read source answer text (Refused it) read stops = (text, read, stops)
 stops_read source answer text Write read stops = absurd stops
 stops_read source answer text Memory read stops = read.quiet
@@ -88,7 +88,7 @@ stops_read source answer text Memory read stops = read.quiet
 pub stops_told : {A : Type 0} (writes : A → Answer) (said : Result A (Refusal × List ℕ)) (stop : Stop) →
     StopsAt said stop → StopsFor (answer_told writes said) stop
 stops_told writes said Read stops = stops
-stops_told writes said TooLong stops = stops
+stops_told writes said TooLong stops = absurd stops
 stops_told writes said (Refused it) stops = ap (answer_told writes) stops
 stops_told writes said Write stops = stops
 stops_told writes said Memory stops = tt

@@ -537,7 +537,10 @@ module _ {S K E : Type 0} (source : Lent S) (out : Lent K) (notes : Lent E) wher
   ends-stopped (reads answer) Read status stops is nothing told =
       unread is (record { reads = tt; failed = stops; nothing = nothing; told = told })
   ends-stopped (reads answer) TooLong status stops is nothing told =
-      too_long is (record { reads = tt; long = stops; nothing = nothing; told = told })
+      elim stops [
+        | inl much ↦ too_long is (record { reads = tt; long = much; nothing = nothing; told = told })
+        | inr meets ↦ beyond is (record { meets = meets; nothing = nothing; told = told })
+      ]
   ends-stopped (reads answer) (Refused it) status stops is nothing told =
       refused it.why is (record { note = it.note.items; meets = stops; nothing = nothing; told = told })
   ends-stopped (reads answer) Write status stops is nothing told = absurd stops

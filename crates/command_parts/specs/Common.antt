@@ -3,7 +3,7 @@ pub use Rattle.command_parts.specs.Ends.{Ends, FailedOnce, HasRead, IsBeyond, Is
 pub use Rattle.command_parts.specs.Ends.{IsRefused, IsShort, IsTold, IsTooLong, IsUnread, Kept, Lent, Meets, Quiet}
 pub use Rattle.command_parts.specs.Ends.{Takes, WritesAll, WritesPart, beyond, cut, done, lent, no_command, no_source}
 pub use Rattle.command_parts.specs.Ends.{refused, short, since, talked, too_long, unread, until}
-pub use Rattle.command_parts.specs.FaultTexts.{IsRefusedFor, fault_text, line_text, why_of}
+pub use Rattle.command_parts.specs.FaultTexts.{IsRefusedFor, fault_text, limit_text, line_text, why_of}
 pub use Rattle.command_parts.specs.TextInPieces.{Follows, StopsAt, answer_told}
 pub use Rattle.command_parts.specs.Scripts.{HasScript, IsTaken, ReadsScript, answer_of, script_answer, told_of}
 pub use Rattle.command_parts.specs.Status.{HasReadAt, HasRunAt, Rises, is_status}

@@ -1,5 +1,5 @@
 -- The notes on what is wrong with an input.
-use Rattle.std.specs.Prelude.{ℕ, List, ◌++◌, codes, decimal}
+use Rattle.std.specs.Prelude.{ℕ, List, [], ◌++◌, codes, decimal}
 use Rattle.text_lines.specs.declared.text_faults.LineKind.{LineKind}
 use Rattle.text_lines.specs.declared.text_faults.LineKind.TheVariants.{Word, Number, Hex, Range, Order, Missing}
 use Rattle.text_lines.specs.Fields.{field_kind}
@@ -35,8 +35,11 @@ kind_of (wrong.Count keyword takes follow) = Word
 kind_of (wrong.Field fault) = field_kind fault
 kind_of (wrong.Sizes fault) = sizes_kind fault
 kind_of wrong.LongNumber = Number
+kind_of wrong.LongerPath = Number
 kind_of (wrong.Missing keyword) = Missing
 kind_of (wrong.Part this begun) = Order
+kind_of (wrong.Stands keyword line) = Order
+kind_of wrong.ContainerFirst = Order
 kind_of (wrong.Twice option) = Range
 kind_of (wrong.FullLine line) = Range
 kind_of wrong.FullPath = Range
@@ -51,20 +54,23 @@ abbrev pub line_text : ℕ → LineKind → List ℕ → List ℕ
 line_text number kind help =
     codes "fault: line " ++ decimal number ++ codes ": " ++ kind_text kind ++ codes "\nhelp: " ++ help ++ codes "\n"
 
--- what is wrong with a script, and what is said of how to write it
-abbrev pub fault_text : ScriptFault → List ℕ
-fault_text (Line number fault) = line_text number (kind_of fault) (line_help_text fault)
-fault_text (Slip line window slip) =
-    codes "fault: slip line " ++ decimal line ++ codes " window " ++ decimal window ++ codes "\nhelp: " ++
+-- what is wrong with a script, and what is said of how to write it: of slips, spread and lag behind a front
+abbrev pub limit_text : List ℕ → ScriptFault → List ℕ
+limit_text front (Line number fault) = line_text number (kind_of fault) (line_help_text fault)
+limit_text front (Slip line window slip) =
+    codes "fault: slip line " ++ decimal line ++ codes " window " ++ decimal window ++ codes "\nhelp: " ++ front ++
     slip_help_text slip ++ codes "\n"
-fault_text (Spread slow fast slip ring) =
+limit_text front (Spread slow fast slip ring) =
     codes "fault: spread " ++ decimal slow ++ codes " " ++ decimal fast ++ codes " " ++ decimal slip ++ codes " " ++
     decimal ring
-    ++ codes "\nhelp: " ++ spread_help_text slow fast slip ++ codes "\n"
-fault_text (Lag lag least slow slip) =
-    codes "fault: lag " ++ decimal lag ++ codes " least " ++ decimal least ++ codes "\nhelp: " ++ lag_help_text slow
-    slip least ++ codes "\n"
-fault_text Memory = codes "fault: no memory\n"
+    ++ codes "\nhelp: " ++ front ++ spread_help_text slow fast slip ++ codes "\n"
+limit_text front (Lag lag least slow slip) =
+    codes "fault: lag " ++ decimal lag ++ codes " least " ++ decimal least ++ codes "\nhelp: " ++ front ++
+    lag_help_text slow slip least ++ codes "\n"
+limit_text front Memory = codes "fault: no memory\n"
+
+abbrev pub fault_text : ScriptFault → List ℕ
+fault_text = limit_text []
 
 -- a line is faulty, or slips, spread or lag don't fit
 abbrev pub why_of : ScriptFault → Refusal

@@ -62,8 +62,13 @@ line_help_text (wrong.Count keyword takes follow) = count_text (keyword_text key
 line_help_text (wrong.Field fault) = field_text fault
 line_help_text (wrong.Sizes fault) = sizes_text fault
 line_help_text wrong.LongNumber = codes "word 6 is a number of one to twenty digits"
+line_help_text wrong.LongerPath =
+    codes "word 5 is a number of one to ten digits; a path that gets longer is no slip: SLIP is 0, and delays has the longer delay"
 line_help_text (wrong.Missing keyword) = missing_text (keyword_text keyword)
 line_help_text (wrong.Part this begun) = order_text (part_text this) (part_text begun)
+line_help_text (wrong.Stands keyword line) =
+    codes "the line " ++ keyword_text keyword ++ codes " stands already in line " ++ decimal line
+line_help_text wrong.ContainerFirst = codes "the line container stands before the line lines"
 line_help_text (wrong.Twice option) = codes "there is a " ++ keyword_text option ++ codes " line already"
 line_help_text (wrong.FullLine line) = codes "line " ++ decimal line ++ codes " has 256 failures already"
 line_help_text wrong.FullPath = codes "there are 256 lost lines already"

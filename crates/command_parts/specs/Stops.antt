@@ -1,9 +1,9 @@
 -- Why a command stopped, as private clauses say it.
-use Rattle.std.specs.Prelude.{◌≡◌, ℕ, ◌<◌, List, length, IfSome, codes}
+use Rattle.std.specs.Prelude.{◌≡◌, ◌⊎◌, ℕ, ◌<◌, List, length, IfSome, codes}
 use Rattle.command_parts.specs.declared.stop_and_status.Refusal.{Refusal}
 use Rattle.command_parts.specs.declared.stop_and_status.Stop.{Stop}
 use Rattle.command_parts.specs.declared.stop_and_status.Stop.TheVariants.{Read, TooLong, Refused, Write, Memory}
-use Rattle.command_parts.specs.Task.{Answer, refuses, reads, refused_status}
+use Rattle.command_parts.specs.Task.{Answer, exceeds, refuses, reads, refused_status}
 use Rattle.command_parts.specs.Ends.{Lent, FailedOnce, IsLong, Quiet, Meets}
 
 -- the status of a cause, and the note on it
@@ -24,7 +24,7 @@ note_of Memory = codes "fault: no memory\n"
 -- a command that answers its input stopped before it wrote anything
 abbrev pub StopsReading : {S : Type 0} → Lent S → (List ℕ → Answer) → Stop → Type 0
 StopsReading source answer Read = FailedOnce source
-StopsReading source answer TooLong = IsLong source
+StopsReading source answer TooLong = IsLong source ⊎ Meets source (reads answer) exceeds
 StopsReading source answer (Refused fault) = Meets source (reads answer) (refuses fault.why fault.note.items)
 StopsReading source answer Write = ⊥
 StopsReading source answer Memory = Quiet source
@@ -32,7 +32,7 @@ StopsReading source answer Memory = Quiet source
 -- a text that is answered so stops its reader for this cause; memory may be short in place of any
 abbrev pub StopsFor : Answer → Stop → Type 0
 StopsFor answer Read = ⊥
-StopsFor answer TooLong = ⊥
+StopsFor answer TooLong = answer ≡ exceeds
 StopsFor answer (Refused fault) = answer ≡ refuses fault.why fault.note.items
 StopsFor answer Write = ⊥
 StopsFor answer Memory = Unit {0}

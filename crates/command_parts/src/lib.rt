@@ -31,7 +31,7 @@ pub use help_laws::keyword_law;
 pub use input_by_lines::{PieceReader, read_pieces};
 pub use program_words::{NO_MEMORY, given_words};
 pub use refusal_of_line::{faulty_line, line_fault};
-pub use refusal_of_script::stop_of;
+pub use refusal_of_script::{script_refusal, stop_of};
 pub use report_end::write_rest;
 pub use script_of_input::read_whole_script;
 pub use stop_and_status::{Fault, Ran, Refusal, Stop, tell, tell_usage};

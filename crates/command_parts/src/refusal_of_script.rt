@@ -2,7 +2,7 @@
 //! whole, as beyond a limit.
 ghost use Rattle.std.specs.Prelude.{◌≡◌, ◌≢◌, ◌≤◌, length};
 ghost use Rattle.text_scripts.specs.declared.script_read.script_fault.ScriptFault.{ScriptFault};
-ghost use Rattle.command_parts.specs.FaultTexts.{kind_of, fault_text, IsRefusedFor};
+ghost use Rattle.command_parts.specs.FaultTexts.{kind_of, fault_text, limit_text, why_of, IsRefusedFor};
 
 use crate::fault_notes::{NOTE_ROOM, lag_note, slip_note, spread_note};
 use crate::refusal_of_line::line_fault;
@@ -21,7 +21,8 @@ fn kind_of(fault: LineFault) -> LineKind
     match fault {
         LineFault::First | LineFault::Count { .. } => LineKind::Word,
         LineFault::Field(fault) => fault.kind(),
-        LineFault::Sizes(SizesFault::Digits) | LineFault::LongNumber => LineKind::Number,
+        LineFault::Sizes(SizesFault::Digits) | LineFault::LongNumber | LineFault::LongerPath =>
+            LineKind::Number,
         LineFault::Missing(_) => LineKind::Missing,
         LineFault::Sizes(SizesFault::Count | SizesFault::Range)
         | LineFault::Twice(_)
@@ -29,6 +30,8 @@ fn kind_of(fault: LineFault) -> LineKind
         | LineFault::FullPath
         | LineFault::TooMany { .. } => LineKind::Range,
         LineFault::Part { .. }
+        | LineFault::Stands { .. }
+        | LineFault::ContainerFirst
         | LineFault::FailureBefore { .. }
         | LineFault::LossBefore { .. }
         | LineFault::FrameBefore { .. }
@@ -55,17 +58,19 @@ fn limit_fault(note: &[u8]) -> Fault
     Fault::new(Refusal::Limit, note)
 }
 
-/// Why a text that says no script stops a command.
-pub fn stop_of(fault: ScriptFault) -> Stop
-    ensures refused { fault ≢ ScriptFault.Memory → IsRefusedFor fault result }
-    ensures short { fault ≡ ScriptFault.Memory → result ≡ Stop.Memory }
+/// What is wrong with a script, which a front of at most eight octets names before what is said of how to write slips,
+/// spread and lag.
+pub fn script_refusal(front: &[u8], fault: ScriptFault) -> Fault
+    requires { length front.now ≤ 8 }
+    ensures why { result.why ≡ why_of fault }
+    ensures note { result.note.items ≡ limit_text front.now fault }
 {
     let mut note = [0u8; NOTE_ROOM];
     match fault {
-        ScriptFault::Line { number, fault } => Stop::Refused(script_line_fault(number, fault)),
+        ScriptFault::Line { number, fault } => script_line_fault(number, fault),
         ScriptFault::Slip { line, window, slip } => {
-            let end = slip_note(line, window, slip, &mut note);
-            Stop::Refused(limit_fault(&note[..end]))
+            let end = slip_note(front, line, window, slip, &mut note);
+            limit_fault(&note[..end])
         }
         ScriptFault::Spread {
             slow,
@@ -73,8 +78,8 @@ pub fn stop_of(fault: ScriptFault) -> Stop
             slip,
             ring,
         } => {
-            let end = spread_note(slow, fast, slip, ring, &mut note);
-            Stop::Refused(limit_fault(&note[..end]))
+            let end = spread_note(front, slow, fast, slip, ring, &mut note);
+            limit_fault(&note[..end])
         }
         ScriptFault::Lag {
             lag,
@@ -82,9 +87,20 @@ pub fn stop_of(fault: ScriptFault) -> Stop
             slow,
             slip,
         } => {
-            let end = lag_note(lag, least, slow, slip, &mut note);
-            Stop::Refused(limit_fault(&note[..end]))
+            let end = lag_note(front, lag, least, slow, slip, &mut note);
+            limit_fault(&note[..end])
         }
+        ScriptFault::Memory => limit_fault(b"fault: no memory\n"),
+    }
+}
+
+/// Why a text that says no script stops a command.
+pub fn stop_of(fault: ScriptFault) -> Stop
+    ensures refused { fault ≢ ScriptFault.Memory → IsRefusedFor fault result }
+    ensures short { fault ≡ ScriptFault.Memory → result ≡ Stop.Memory }
+{
+    match fault {
         ScriptFault::Memory => Stop::Memory,
+        fault => Stop::Refused(script_refusal(b"", fault)),
     }
 }

@@ -13,6 +13,10 @@ use text_scripts::script_read::{Keyword, LineFault, Part, SizesFault};
 const FIRST_WORDS: &[u8] =
     b"a line begins with one of container, lines, delays, ring, lag, ticks, sink, holdoff, restore, statuses, fail, lost, frame, stream, add, remove, client, operator, tick, carry, back, take, round, drain";
 
+/// How the slip of a failure has to be, where it says how much longer a path gets.
+const LONGER_PATH: &[u8] =
+    b"word 5 is a number of one to ten digits; a path that gets longer is no slip: SLIP is 0, and delays has the longer delay";
+
 /// A keyword as scripts have it.
 fn keyword_word(keyword: Keyword) -> &'static [u8]
     ensures word { result.now ≡ keyword_text keyword }
@@ -83,6 +87,19 @@ fn whole_help(text: &[u8], out: &mut [u8]) -> usize
     line.end()
 }
 
+/// Writes in which line a line of the configuration, or an option, stands already.
+fn stands_help(keyword: Keyword, number: u32, out: &mut [u8]) -> usize
+    requires { 200 ≤ length out.old }
+    ensures within { result ≤ 200 }
+    ensures text { take result out.new ≡ line_help_text (LineFault.Stands keyword number) }
+{
+    let mut line = TextCursor::new(out);
+    line.text(b"the line ");
+    line.text(keyword_word(keyword));
+    line.number(b" stands already in line ", number);
+    line.end()
+}
+
 /// Writes that an option stands already.
 fn twice_help(option: Keyword, out: &mut [u8]) -> usize
     requires { 200 ≤ length out.old }
@@ -138,8 +155,13 @@ pub(crate) fn line_help(fault: LineFault, out: &mut [u8]) -> usize
         LineFault::Field(fault) => field_help(fault, out),
         LineFault::Sizes(fault) => whole_help(sizes_words(fault), out),
         LineFault::LongNumber => whole_help(b"word 6 is a number of one to twenty digits", out),
+        LineFault::LongerPath => whole_help(LONGER_PATH, out),
         LineFault::Missing(keyword) => missing_help(keyword_word(keyword), out),
         LineFault::Part { this, begun } => order_help(part_words(this), part_words(begun), out),
+        LineFault::Stands { keyword, line } => stands_help(keyword, line, out),
+        LineFault::ContainerFirst => {
+            whole_help(b"the line container stands before the line lines", out)
+        }
         LineFault::Twice(option) => twice_help(option, out),
         LineFault::FullLine { line } => full_help(line, out),
         LineFault::FullPath => whole_help(b"there are 256 lost lines already", out),

@@ -1,6 +1,6 @@
 -- What `service` writes of a text agrees with what `fates` and `walk` write of it.
 use Rattle.std.proofs.Common.{◌≡◌, ◌≤◌, ℕ, List, ◌++◌, length, Result, Ok, Err, refl, sym, ◌∙◌, ap, flat_map}
-use Rattle.law_model.specs.Common.{Counts, Leg, leg_of, scenario_by, longest_input}
+use Rattle.law_model.specs.Common.{Counts, Leg, greatest, leg_of, scenario_by, longest_input}
 use Rattle.law_model.specs.declared.script_types.Script.{Script}
 use Rattle.law_progress.proofs.RoundProgressAndDrainLaws.{walked-reached}
 use Rattle.law_walk.specs.Common.{walk_plan, session_of, session_rows, session_pieces, delivered_of, landed_items}
@@ -55,7 +55,7 @@ module _ (interval : ℕ) (text service : List ℕ) (script : Script) (short : l
           before = flat_map (members_text leg.config.size) (members_in leg s)
               ++ flat_map (outage_line_text (row_cause (scenario_by leg) (session_of leg))) (outages_in leg s)
               ++ flat_map stretch_line_text (stretches_in leg s interval)
-              ++ delays_text (delays_of (carried_of (ended_of leg s)));
+              ++ delays_text (delays_of (carried_of (ended_of leg s))) (greatest leg.config.delays);
           last = sym same ∙ text-lines leg s interval;
           lines = lines;
           fates = ap (answer_of tells) said ∙ ap (λ (l : List ℕ). writes (lines ++ l)) (fates-told leg s sound walked);

@@ -24,14 +24,17 @@ use Rattle.pair_walk.specs.ReportsOfWays.{way_text, pair_text, pair_reply}
 use Rattle.pair_walk.proofs.PairReportRowsLaws.{pair_headline}
 use Rattle.walk_live.specs.Headline.{IsLiveHeadline}
 use Rattle.walk_live.proofs.ConversationAnswerLaws.{live_headline}
-use Rattle.command_walk.specs.commands.Live.{live_talk, live_words}
+use Rattle.command_walk.specs.commands.Live.{asks, live_talk, live_words}
+use Rattle.walk_live.specs.declared.asked.Asked.{Asked}
+use Rattle.walk_live.specs.declared.asked.Asked.TheVariants.{Nothing, Steps, Members}
 use Rattle.command_walk.specs.commands.Pair.{TellsPair, pair_words}
+use Rattle.command_walk.specs.commands.OneWay.{is_way, one_way_words}
 use Rattle.command_walk.specs.declared.command_of_words.WalkCommand.{WalkCommand}
 use Rattle.command_walk.specs.HandedWalk.{HandsScript, StopsBoth}
 use Rattle.std.specs.Prelude.{String, string_bytes, IsNone, nat_lt, drop, ◌==◌, bytes_eq, codes}
 use Rattle.std.specs.Option.{option_or}
 use Rattle.std.specs.declared.alloc.Global.{Global}
-use Rattle.std.proofs.lemmas.Bool.{cases_Bool, and_parts, leb-true, ltb-true}
+use Rattle.std.proofs.lemmas.Bool.{cases_Bool, ltb-true}
 use Rattle.command_words.specs.CommandLineWords.{number_in, are_plain}
 use Rattle.command_parts.specs.Task.{writes, writes_both}
 use Rattle.command_parts.specs.declared.stop_and_status.Stop.TheVariants.{Memory, Read, Refused, TooLong, Write}
@@ -39,7 +42,8 @@ use Rattle.command_parts.proofs.SourceTextAndStopLaws.{ends-no-memory}
 use Rattle.command_walk.specs.declared.command_of_words.WalkCommand.TheVariants.{Walk, Trace, Fates, Capture, Gfp}
 use Rattle.command_walk.specs.declared.command_of_words.WalkCommand.TheVariants.{Frames, Decode, Noise, Au4, Channels}
 use Rattle.command_walk.specs.declared.command_of_words.WalkCommand.TheVariants.{Pair, Make, Check, Service, H4, Live}
-use Rattle.command_walk.specs.declared.command_of_words.WalkCommand.TheVariants.{Stream}
+use Rattle.command_walk.specs.declared.command_of_words.WalkCommand.TheVariants.{OneWay, Stream}
+use Rattle.law_pair.specs.declared.pair_events.Way.TheVariants.{There, Back}
 use Rattle.command_walk.specs.commands.Walk.{word_at, is_word, walk_words}
 use Rattle.command_walk.specs.commands.Trace.{trace_words, trace_text}
 use Rattle.command_walk.specs.commands.Fates.{fates_words, fates_answer, EndsTrue, WalksTrue}
@@ -155,20 +159,20 @@ module _ {S K E : Type 0} (source : Lent S) (out : Lent K) (notes : Lent E) (sta
       (pair-told text (pair_of text) refl it.meets.1.fits (subst (WritesAll out notes) (sym it.meets.2) it.written))
 
 -- ---- the headline of a conversation
-module _ {S K E : Type 0} (source : Lent S) (out : Lent K) (notes : Lent E) (trace : Bool) (status : ℕ) where
+module _ {S K E : Type 0} (source : Lent S) (out : Lent K) (notes : Lent E) (asked : Asked) (status : ℕ) where
   abbrev IsLiveTold : List ℕ → Type 0
-  IsLiveTold text = (written : List ℕ) × Takes out written × IsLiveHeadline trace text written
+  IsLiveTold text = (written : List ℕ) × Takes out written × IsLiveHeadline asked text written
 
-  live-told : (o : Option (List ℕ)) → IfSome o (λ text. (((live_talk trace).in_all text).end ≡ None)
-      × Takes out ((live_talk trace).in_all text).text) → IfSome o IsLiveTold
+  live-told : (o : Option (List ℕ)) → IfSome o (λ text. (((live_talk asked).in_all text).end ≡ None)
+      × Takes out ((live_talk asked).in_all text).text) → IfSome o IsLiveTold
   live-told None all = tt
-  live-told (Some text) all = (((live_talk trace).in_all text).text, all.1, live_headline trace text all.0)
+  live-told (Some text) all = (((live_talk asked).in_all text).text, all.1, live_headline asked text all.0)
 
-  pub tells-live : Ends source out notes (talks (live_talk trace)) status → status ≡ 0 →
+  pub tells-live : Ends source out notes (talks (live_talk asked)) status → status ≡ 0 →
       IfSome (source.octets source.old) IsLiveTold
   tells-live ends at =
       live-told (source.octets source.old)
-      (all-said source out notes (live_talk trace) status (as-talk source out notes (live_talk trace) status ends) at)
+      (all-said source out notes (live_talk asked) status (as-talk source out notes (live_talk asked) status ends) at)
 
 -- ---- words
 pub some-command : (P : WalkCommand → Type 0) (o : Option WalkCommand) (command : WalkCommand) → o ≡ Some command →
@@ -242,9 +246,17 @@ service-fits words =
 
 live-fits : (words : List (List ℕ)) → IfSome (live_words words) Fits
 live-fits words =
-    let told = length words == 2 && (bytes_eq (word_at 0 words) (codes "live") && bytes_eq (word_at 1 words) (codes "trace")) in
-    either-fits (is_word (codes "live") words) (Some (Live false)) (if told then Some (Live true) else None) tt
-    (if-fits told (Some (Live true)) tt)
+    let last = if asks (codes "told") words then Some (Live Members) else None in
+    either-fits (is_word (codes "live") words) (Some (Live Nothing))
+    (if asks (codes "trace") words then Some (Live Steps) else last) tt
+    (either-fits (asks (codes "trace") words) (Some (Live Steps)) last tt
+    (if-fits (asks (codes "told") words) (Some (Live Members)) tt))
+
+one-way-fits : (words : List (List ℕ)) → IfSome (one_way_words words) Fits
+one-way-fits words =
+    either-fits (is_way (codes "there") words) (Some (OneWay There))
+    (if is_way (codes "back") words then Some (OneWay Back) else None) tt
+    (if-fits (is_way (codes "back") words) (Some (OneWay Back)) tt)
 
 make-fits : (words : List (List ℕ)) → IfSome (make_words words) Fits
 make-fits words =
@@ -303,6 +315,7 @@ named-fits words =
     ∷ (au4_words words, word-fits (codes "au4") words Au4 tt)
     ∷ (channels_words words, word-fits (codes "channels") words Channels tt)
     ∷ (pair_words words, word-fits (codes "pair") words Pair tt)
+    ∷ (one_way_words words, one-way-fits words)
     ∷ (live_words words, live-fits words)
     ∷ (make_words words, make-fits words)
     ∷ (stream_words words, stream-fits words)
@@ -344,7 +357,8 @@ is-command (Some Noise) some = tt
 is-command (Some Au4) some = tt
 is-command (Some Channels) some = tt
 is-command (Some Pair) some = tt
-is-command (Some (Live trace)) some = tt
+is-command (Some (OneWay way)) some = tt
+is-command (Some (Live asked)) some = tt
 is-command (Some (Make number lines ticks)) some = tt
 is-command (Some (Stream load)) some = tt
 
@@ -394,7 +408,8 @@ module _ {S K E : Type 0} (source : Lent S) (out : Lent K) (notes : Lent E) (sta
   headline-of Au4 runs ends at = absurd runs
   headline-of Channels runs ends at = absurd runs
   headline-of Pair runs ends at = absurd runs
-  headline-of (Live trace) runs ends at = absurd runs
+  headline-of (OneWay way) runs ends at = absurd runs
+  headline-of (Live asked) runs ends at = absurd runs
   headline-of (Make number lines ticks) runs ends at = absurd runs
   headline-of (Stream rate) runs ends at = absurd runs
 

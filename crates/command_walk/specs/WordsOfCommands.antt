@@ -11,7 +11,7 @@ use Rattle.walk_engine.specs.Common.{Walked}
 use Rattle.command_walk.specs.declared.command_of_words.WalkCommand.{WalkCommand}
 use Rattle.command_walk.specs.declared.command_of_words.WalkCommand.TheVariants.{Walk, Trace, Fates, Capture, Gfp, Frames}
 use Rattle.command_walk.specs.declared.command_of_words.WalkCommand.TheVariants.{Decode, Noise, Au4, Channels, Pair, Make}
-use Rattle.command_walk.specs.declared.command_of_words.WalkCommand.TheVariants.{Check, H4, Service, Live, Stream}
+use Rattle.command_walk.specs.declared.command_of_words.WalkCommand.TheVariants.{Check, H4, Service, Live, OneWay, Stream}
 use Rattle.command_walk.specs.commands.Walk.{walk_words, walk_answer}
 use Rattle.command_walk.specs.commands.Trace.{trace_words, trace_answer}
 use Rattle.command_walk.specs.commands.Capture.{capture_words, capture_answer}
@@ -26,6 +26,7 @@ use Rattle.command_walk.specs.commands.Noise.{noise_words, noise_answer}
 use Rattle.command_walk.specs.commands.Au4.{au4_words, au4_answer}
 use Rattle.command_walk.specs.commands.Channels.{channels_words, channels_answer}
 use Rattle.command_walk.specs.commands.Pair.{pair_words}
+use Rattle.command_walk.specs.commands.OneWay.{one_way_answer, one_way_words}
 use Rattle.pair_walk.specs.ReportsOfWays.{pair_reply}
 use Rattle.command_walk.specs.commands.Live.{live_words, live_talk}
 use Rattle.command_walk.specs.commands.Make.{make_words, make_answer}
@@ -34,12 +35,12 @@ use Rattle.command_walk.specs.HandedWalk.{IsWalkOf, HandsScript}
 use Rattle.law_model.specs.Common.{most_drawn_ticks, most_ticks}
 
 abbrev pub usage : List ℕ
-usage = codes "usage: vcat_walk walk, trace, fates, check, h4 LINE, service INTERVAL, capture, gfp, frames, decode, noise, au4, channels, pair, live, live trace, make NUMBER LINES TICKS, or stream OCTETS MBITS FIRST END NUMBER\n"
+usage = codes "usage: vcat_walk walk, trace, fates, check, h4 LINE, service INTERVAL, capture, gfp, frames, decode, noise, au4, channels, pair, pair there, pair back, live, live trace, live told, make NUMBER LINES TICKS, or stream OCTETS MBITS FIRST END NUMBER\n"
 
 -- ---- a line for each command
 abbrev pub command_of : List (List ℕ) → Option WalkCommand
 command_of words =
-    option_or (option_or (option_or (option_or (option_or (option_or (option_or
+    option_or (option_or (option_or (option_or (option_or (option_or (option_or (option_or
     (option_or (option_or (option_or (option_or (option_or (option_or (option_or (option_or (option_or (walk_words words)
     (trace_words words))
     (fates_words words))
@@ -54,6 +55,7 @@ command_of words =
     (au4_words words))
     (channels_words words))
     (pair_words words))
+    (one_way_words words))
     (live_words words))
     (make_words words))
     (stream_words words)
@@ -73,7 +75,8 @@ task_at Noise = reads noise_answer
 task_at Au4 = reads au4_answer
 task_at Channels = reads channels_answer
 task_at Pair = reads pair_reply
-task_at (Live trace) = talks (live_talk trace)
+task_at (OneWay way) = reads (one_way_answer way)
+task_at (Live asked) = talks (live_talk asked)
 task_at (Make number lines ticks) = makes (make_answer number lines ticks)
 task_at (Stream load) = makes (stream_answer load)
 
@@ -92,7 +95,8 @@ HandsBack source walk Noise = walk ≡ None
 HandsBack source walk Au4 = walk ≡ None
 HandsBack source walk Channels = walk ≡ None
 HandsBack source walk Pair = walk ≡ None
-HandsBack source walk (Live trace) = walk ≡ None
+HandsBack source walk (OneWay way) = walk ≡ None
+HandsBack source walk (Live asked) = walk ≡ None
 HandsBack source walk (Make number lines ticks) = IsWalkOf (load number lines ticks) walk
 HandsBack source walk (Stream rate) = walk ≡ None
 
@@ -112,7 +116,8 @@ RunsScript Noise = ⊥
 RunsScript Au4 = ⊥
 RunsScript Channels = ⊥
 RunsScript Pair = ⊥
-RunsScript (Live trace) = ⊥
+RunsScript (OneWay way) = ⊥
+RunsScript (Live asked) = ⊥
 RunsScript (Make number lines ticks) = ⊥
 RunsScript (Stream rate) = ⊥
 
@@ -132,7 +137,8 @@ Fits Noise = Unit {0}
 Fits Au4 = Unit {0}
 Fits Channels = Unit {0}
 Fits Pair = Unit {0}
-Fits (Live trace) = Unit {0}
+Fits (OneWay way) = Unit {0}
+Fits (Live asked) = Unit {0}
 Fits (Make number lines ticks) = IsWithin 1 64 lines × IsWithin 1 most_drawn_ticks ticks
 Fits (Stream rate) = IsRate rate
 

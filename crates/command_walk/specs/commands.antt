@@ -12,6 +12,7 @@ pub mod Noise
 pub mod Au4
 pub mod Channels
 pub mod Pair
+pub mod OneWay
 pub mod Live
 pub mod Make
 pub mod Service

@@ -7,16 +7,18 @@ ghost use Rattle.command_walk.specs.GivesByTask.{GivesFor};
 ghost use Rattle.command_walk.specs.WordsOfCommands.{task_at, usage, Fits, HandsBack};
 
 use crate::commands::{
-    au4, capture, channels, check, decode, fates, frames, gfp, h4, live, make, noise, pair,
-    service, stream, trace, walk,
+    au4, capture, channels, check, decode, fates, frames, gfp, h4, live, make, noise, one_way,
+    pair, service, stream, trace, walk,
 };
 use crate::walk_end::WalkEnd;
 use command_parts::{Ran, Stop, tell_usage};
 use command_words::FromWords;
 use law_rates::Rate;
 use octet_io::{ByteSink, ByteSource};
+use pair_engine::Way;
 use std::alloc::Global;
 use walk_engine::walk_core::Walk;
+use walk_live::Asked;
 
 /// What the program is told to do.
 #[derive(Clone, Copy, Debug, PartialEq, Eq)]
@@ -50,8 +52,11 @@ pub enum WalkCommand {
     Channels,
     /// `pair`: make the sessions of two scripts, which carry each other's return packets.
     Pair,
-    /// `live`: answer a live text as it comes; `live trace`: with a line for each decision step.
-    Live { trace: bool },
+    /// `pair there`, `pair back`: write the script of one way of two scripts.
+    OneWay { way: Way },
+    /// `live`: answer a live text as it comes; `live trace`: with a line for each decision step; `live told`: with
+    /// one for each line of the group whose code is another one than before.
+    Live { tells: Asked },
     /// `make`: make the walk of the load of a number, of 1 to 64 lines and 1 to 1,000,000 ticks.
     Make { number: u64, lines: u8, ticks: u32 },
     /// `stream`: write the script lines of a client that sends at a rate.
@@ -78,6 +83,7 @@ impl FromWords for WalkCommand {
             .or(au4::words(words))
             .or(channels::words(words))
             .or(pair::words(words))
+            .or(one_way::words(words))
             .or(live::words(words))
             .or(make::words(words))
             .or(stream::words(words))
@@ -113,7 +119,8 @@ pub(crate) fn run<S: ByteSource, K: ByteSink, E: ByteSink>(
         WalkCommand::Au4 => au4::au4(alloc, script, out),
         WalkCommand::Channels => channels::channels(alloc, script, out),
         WalkCommand::Pair => pair::pair(alloc, script, out, notes),
-        WalkCommand::Live { trace } => live::live(alloc, trace, script, out),
+        WalkCommand::OneWay { way } => one_way::one_way(alloc, way, script, out),
+        WalkCommand::Live { tells } => live::live(alloc, tells, script, out),
         WalkCommand::Make {
             number,
             lines,
@@ -130,7 +137,7 @@ pub(crate) fn no_command<E: ByteSink>(notes: &mut E) -> WalkEnd
     ensures told { Tells E.written E.faults notes.old notes.new usage }
 {
     let text =
-        b"usage: vcat_walk walk, trace, fates, check, h4 LINE, service INTERVAL, capture, gfp, frames, decode, noise, au4, channels, pair, live, live trace, make NUMBER LINES TICKS, or stream OCTETS MBITS FIRST END NUMBER\n";
+        b"usage: vcat_walk walk, trace, fates, check, h4 LINE, service INTERVAL, capture, gfp, frames, decode, noise, au4, channels, pair, pair there, pair back, live, live trace, live told, make NUMBER LINES TICKS, or stream OCTETS MBITS FIRST END NUMBER\n";
     let status = tell_usage(text, notes);
     WalkEnd { status, walk: None }
 }

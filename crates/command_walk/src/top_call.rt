@@ -1,8 +1,9 @@
 //! The program as a call: words, an input and two outputs in, a status and a walk out.
-ghost use Rattle.std.specs.Prelude.{◌≡◌, ◌≢◌, Bool, List, ℕ, IfSome, Some, None};
+ghost use Rattle.std.specs.Prelude.{◌≡◌, ◌≢◌, List, ℕ, IfSome, Some, None};
 ghost use Rattle.law_model.specs.Common.{Appends};
 ghost use Rattle.law_headline.specs.Headline.{IsWalkHeadline};
 ghost use Rattle.walk_live.specs.Headline.{IsLiveHeadline};
+ghost use Rattle.walk_live.specs.declared.asked.Asked.{Asked};
 ghost use Rattle.command_parts.specs.Status.{HasRunAt};
 ghost use Rattle.command_parts.specs.Ends.{Ends, lent};
 ghost use Rattle.command_walk.specs.declared.command_of_words.WalkCommand.TheVariants.{Live, Pair};
@@ -59,9 +60,9 @@ pub fn walk_top<S: ByteSource, K: ByteSink, E: ByteSink>(
     // That of a conversation: what is written are the answers to the lines of its text, and then the totals;
     // and afterwards there is a script of which a walk writes the same frames, refused items and totals, so
     // that the headline holds of them.
-    ensures live { (trace : Bool) → command_in words.now ≡ Some (Live trace) → result.status ≡ 0 →
+    ensures live { (asked : Asked) → command_in words.now ≡ Some (Live asked) → result.status ≡ 0 →
         IfSome (S.left script.old) (λ text. (written : List ℕ)
-        × Appends K.written K.faults out.old out.new written × IsLiveHeadline trace text written) }
+        × Appends K.written K.faults out.old out.new written × IsLiveHeadline asked text written) }
 
     // The walk that is handed back has made all events of its script, also where a write failed.
     ensures handed { IfSome (command_in words.now) (λ command. HasRunAt result.status →

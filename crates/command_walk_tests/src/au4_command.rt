@@ -43,22 +43,22 @@ fn faulty_rows() -> &'static str {
         5;;fault: line 3: word|help: a line begins with one of start, frames, up, down, new|\n\
     au4;start 0|frames 3|keep 1| => \
         5;;fault: line 3: word|help: a line begins with one of start, frames, up, down, new|\n\
-    au4;start| => 5;;fault: line 1: word|help: start takes 1 words, and 0 follow|\n\
-    au4;start 0 0| => 5;;fault: line 1: word|help: start takes 1 words, and 2 follow|\n\
+    au4;start| => 5;;fault: line 1: word|help: start takes 1 word, and 0 follow|\n\
+    au4;start 0 0| => 5;;fault: line 1: word|help: start takes 1 word, and 2 follow|\n\
     au4;start 783| => 5;;fault: line 1: range|help: word 2 is from 0 to 782|\n\
     au4;start 00000000001| => 5;;fault: line 1: number|help: word 2 is a number of one to ten digits|\n\
     au4;start 9999999999| => 5;;fault: line 1: range|help: word 2 is from 0 to 782|\n\
     au4;start x| => 5;;fault: line 1: number|help: word 2 is a number of one to ten digits|\n\
     au4;start 0|frames 0| => 5;;fault: line 2: range|help: word 2 is from 1 to 100000|\n\
     au4;start 0|frames 100001| => 5;;fault: line 2: range|help: word 2 is from 1 to 100000|\n\
-    au4;start 0|frames 3|up| => 5;;fault: line 3: word|help: up takes 1 words, and 0 follow|\n\
-    au4;start 0|frames 3|up 1 2| => 5;;fault: line 3: word|help: up takes 1 words, and 2 follow|\n\
+    au4;start 0|frames 3|up| => 5;;fault: line 3: word|help: up takes 1 word, and 0 follow|\n\
+    au4;start 0|frames 3|up 1 2| => 5;;fault: line 3: word|help: up takes 1 word, and 2 follow|\n\
     au4;start 0|frames 3|up 0| => 5;;fault: line 3: range|help: word 2 is from 1 to 2|\n\
     au4;start 0|frames 3|down 0| => 5;;fault: line 3: range|help: word 2 is from 1 to 2|\n\
     au4;start 0|frames 3|up 3| => 5;;fault: line 3: range|help: word 2 is from 1 to 2|\n\
     au4;start 0|frames 1|up 0| => 5;;fault: line 3: range|help: word 2 is at most 0|\n\
     au4;start 0|frames 1|down 1| => 5;;fault: line 3: range|help: word 2 is at most 0|\n\
-    au4;start 0|frames 3|new 1| => 5;;fault: line 3: word|help: new takes 2 words, and 1 follow|\n\
+    au4;start 0|frames 3|new 1| => 5;;fault: line 3: word|help: new takes 2 words, and 1 follows|\n\
     au4;start 0|frames 3|new 1 2 3| => 5;;fault: line 3: word|help: new takes 2 words, and 3 follow|\n\
     au4;start 0|frames 3|new 3 783| => 5;;fault: line 3: range|help: word 2 is from 0 to 2|\n\
     au4;start 0|frames 3|new 1 783| => 5;;fault: line 3: range|help: word 3 is from 0 to 782|\n\

@@ -46,21 +46,21 @@ fn faulty_rows() -> &'static str {
     channels;x| => 5;;fault: line 1: word|help: a line begins with one of channels, octets, frame, cut|\n\
     channels;channel 2| => 5;;fault: line 1: word|help: a line begins with one of channels, octets, frame, cut|\n\
     channels;octets 1000| => 5;;fault: line 1: missing|help: the line channels has to stand here|\n\
-    channels;channels| => 5;;fault: line 1: word|help: channels takes 1 words, and 0 follow|\n\
-    channels;channels 1 2| => 5;;fault: line 1: word|help: channels takes 1 words, and 2 follow|\n\
+    channels;channels| => 5;;fault: line 1: word|help: channels takes 1 word, and 0 follow|\n\
+    channels;channels 1 2| => 5;;fault: line 1: word|help: channels takes 1 word, and 2 follow|\n\
     channels;channels x| => 5;;fault: line 1: number|help: word 2 is a number of one to ten digits|\n\
     channels;channels 0| => 5;;fault: line 1: range|help: word 2 is from 1 to 256|\n\
     channels;channels 257| => 5;;fault: line 1: range|help: word 2 is from 1 to 256|\n\
     channels;channels 1| => 5;;fault: line 2: missing|help: the line octets has to stand here|\n\
     channels;channels 1|frame 0 00| => 5;;fault: line 2: missing|help: the line octets has to stand here|\n\
     channels;channels 1|channels 1| => 5;;fault: line 2: missing|help: the line octets has to stand here|\n\
-    channels;channels 1|octets| => 5;;fault: line 2: word|help: octets takes 1 words, and 0 follow|\n\
+    channels;channels 1|octets| => 5;;fault: line 2: word|help: octets takes 1 word, and 0 follow|\n\
     channels;channels 1|octets 0| => 5;;fault: line 2: range|help: word 2 is from 1 to 100000000|\n\
     channels;channels 1|octets 100000001| => 5;;fault: line 2: range|help: word 2 is from 1 to 100000000|\n\
     channels;channels 1|octets 9|octets 9| => 5;;fault: line 3: order|help: octets stands before octets|\n\
     channels;channels 1|octets 9|channels 1| => 5;;fault: line 3: order|help: channels stands before octets|\n\
     channels;channels 1|octets 9|frame| => 5;;fault: line 3: word|help: frame takes 2 words, and 0 follow|\n\
-    channels;channels 1|octets 9|frame 0| => 5;;fault: line 3: word|help: frame takes 2 words, and 1 follow|\n\
+    channels;channels 1|octets 9|frame 0| => 5;;fault: line 3: word|help: frame takes 2 words, and 1 follows|\n\
     channels;channels 1|octets 9|frame 0 00 00| => 5;;fault: line 3: word|help: frame takes 2 words, and 3 follow|\n\
     channels;channels 1|octets 9|frame x 00| => \
         5;;fault: line 3: number|help: word 2 is a number of one to ten digits|\n\
@@ -72,7 +72,7 @@ fn faulty_rows() -> &'static str {
         5;;fault: line 3: hex|help: word 3 is an even number of hexadecimal digits|\n\
     channels;channels 1|octets 9|frame 0 00*65536| => 5;;fault: line 3: range|help: word 3 has 1 to 65535 octets|\n\
     channels;channels 1|octets 9|cut| => 5;;fault: line 3: word|help: cut takes 2 words, and 0 follow|\n\
-    channels;channels 1|octets 9|cut 1| => 5;;fault: line 3: word|help: cut takes 2 words, and 1 follow|\n\
+    channels;channels 1|octets 9|cut 1| => 5;;fault: line 3: word|help: cut takes 2 words, and 1 follows|\n\
     channels;channels 1|octets 9|cut 1 2 3| => 5;;fault: line 3: word|help: cut takes 2 words, and 3 follow|\n\
     channels;channels 1|octets 9|cut x 2| => 5;;fault: line 3: number|help: word 2 is a number of one to ten digits|\n\
     channels;channels 1|octets 9|cut 1 x| => 5;;fault: line 3: number|help: word 3 is a number of one to ten digits|\n\

@@ -67,10 +67,19 @@ fn faulty_rows() -> &'static str {
         statuses, fail, lost, frame, add, remove, cut, mend, pass|\n\
     live;lines 1|delays 0|ring 1|lag 1|ticks 9|pass 4|fail 0 5 6 0| => 5;now 4|;fault: line 7: order|\
         help: fail and lost stands before live lines|\n\
+    live;# a|lines 1|delays 0|ring 1|lag 1|ticks 9|fail 0 3 5 0|ring 1| => 5;;fault: line 8: order|\
+        help: the line ring stands already in line 4|\n\
+    live;lines 1|delays 0|ring 1|lag 1|ticks 9|sink stops|pass 1|sink stops| => 5;now 1|;fault: line 8: order|\
+        help: configuration stands before live lines|\n\
+    live;lines 1|delays 0|ring 1|lag 1|ticks 9|container vc4| => 5;;fault: line 6: order|\
+        help: the line container stands before the line lines|\n\
+    live;lines 1|delays 0|ring 1|lag 1|ticks 9|fail 0 1 5 -3| => 5;;fault: line 6: number|\
+        help: word 5 is a number of one to ten digits; a path that gets longer is no slip: SLIP is 0, and delays has \
+        the longer delay|\n\
     live;lines 1|delays 0|ring 1|lag 1|ticks 9|add 0||sink stops| => 5;;fault: line 8: order|\
         help: configuration stands before live lines|\n\
     live;lines 1|delays 0|ring 1|lag 1|ticks 9|pass 4|frame 4 00| => 5;now 4|;fault: line 7: word|\
-        help: frame takes 1 words, and 2 follow|\n\
+        help: frame takes 1 word, and 2 follow|\n\
     live;lines 1|delays 0|ring 1|lag 1|ticks 9|frame 0a0| => 5;;fault: line 6: hex|\
         help: word 2 is an even number of hexadecimal digits|\n\
     live;lines 1|delays 0|ring 1|lag 1|ticks 9|pass 10| => 5;;fault: line 6: range|help: word 2 is from 1 to 9|\n\

@@ -34,15 +34,15 @@ fn faulty_rows() -> &'static str {
     "\
     noise;flop| => 5;;fault: line 1: word|help: a line begins with one of frame, flip|\n\
     noise;Frame 00*64| => 5;;fault: line 1: word|help: a line begins with one of frame, flip|\n\
-    noise;frame| => 5;;fault: line 1: word|help: frame takes 1 words, and 0 follow|\n\
-    noise;frame 00 00| => 5;;fault: line 1: word|help: frame takes 1 words, and 2 follow|\n\
+    noise;frame| => 5;;fault: line 1: word|help: frame takes 1 word, and 0 follow|\n\
+    noise;frame 00 00| => 5;;fault: line 1: word|help: frame takes 1 word, and 2 follow|\n\
     noise;frame 0| => 5;;fault: line 1: hex|help: word 2 is an even number of hexadecimal digits|\n\
     noise;frame 0g| => 5;;fault: line 1: hex|help: word 2 is an even number of hexadecimal digits|\n\
     noise;frame 00*63| => 5;;fault: line 1: range|help: word 2 has 64 to 9600 octets|\n\
     noise;flip 0 0|frame 00*64| => 5;;fault: line 2: order|help: frame stands before flip|\n\
     noise;flip 0 0|frame| => 5;;fault: line 2: order|help: frame stands before flip|\n\
     noise;flip| => 5;;fault: line 1: word|help: flip takes 2 words, and 0 follow|\n\
-    noise;flip 1| => 5;;fault: line 1: word|help: flip takes 2 words, and 1 follow|\n\
+    noise;flip 1| => 5;;fault: line 1: word|help: flip takes 2 words, and 1 follows|\n\
     noise;flip 1 2 3| => 5;;fault: line 1: word|help: flip takes 2 words, and 3 follow|\n\
     noise;flip x 0| => 5;;fault: line 1: number|help: word 2 is a number of one to ten digits|\n\
     noise;flip 0 x| => 5;;fault: line 1: number|help: word 3 is a number of one to ten digits|\n\

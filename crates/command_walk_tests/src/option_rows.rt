@@ -110,7 +110,7 @@ fn faulty_rows() -> &'static str {
     walk;lines 2|delays 0 0|ring 1|lag 1|ticks 9|statuses 016| => 5;;fault: line 6: word|help: word 2 is 16 or 32|\n\
     walk;lines 2|delays 0 0|ring 1|lag 1|ticks 9|statuses x| => 5;;fault: line 6: word|help: word 2 is 16 or 32|\n\
     walk;lines 2|delays 0 0|ring 1|lag 1|ticks 9|statuses| => 5;;fault: line 6: word|\
-        help: statuses takes 1 words, and 0 follow|\n\
+        help: statuses takes 1 word, and 0 follow|\n\
     walk;lines 2|delays 0 0|ring 1|lag 1|ticks 9|holdoff 5001| => 5;;fault: line 6: range|\
         help: word 2 is from 0 to 5000|\n\
     walk;lines 2|delays 0 0|ring 1|lag 1|ticks 9|holdoff 99999999999| => 5;;fault: line 6: number|\
@@ -118,7 +118,7 @@ fn faulty_rows() -> &'static str {
     walk;lines 2|delays 0 0|ring 1|lag 1|ticks 9|restore 62501| => 5;;fault: line 6: range|\
         help: word 2 is from 0 to 62500|\n\
     walk;lines 2|delays 0 0|ring 1|lag 1|ticks 9|restore 1 2| => 5;;fault: line 6: word|\
-        help: restore takes 1 words, and 2 follow|\n\
+        help: restore takes 1 word, and 2 follow|\n\
     walk;lines 2|delays 0 0|ring 1|lag 1|ticks 9|holdoff 3|restore 4|holdoff 3| => 5;;fault: line 8: range|\
         help: there is a holdoff line already|\n\
     walk;lines 2|delays 0 0|ring 1|lag 1|ticks 9|holdoff 3|holdoff 5001| => 5;;fault: line 7: range|\
@@ -138,11 +138,19 @@ fn faulty_rows() -> &'static str {
     walk;lines 2|delays 0 0|ring 1|lag 1|ticks 9|drain|holdoff x| => 5;;fault: line 7: order|\
         help: configuration stands before event lines|\n\
     walk;lines 2|delays 0 0|ring 1|lag 1|ticks 9|holdoff 3|ring 1| => 5;;fault: line 7: order|\
-        help: configuration stands before fail and lost|\n\
+        help: the line ring stands already in line 3|\n\
     walk;lines 2|delays 0 0|ring 1|lag 1|ticks 9|restore 3|container vc3| => 5;;fault: line 7: order|\
-        help: configuration stands before fail and lost|\n\
+        help: the line container stands before the line lines|\n\
     walk;lines 2|delays 0 0|ring 1|lag 1|ticks 9|holdoff 3|fail 0 1 2 0|ring 1| => 5;;fault: line 8: order|\
+        help: the line ring stands already in line 3|\n\
+    walk;lines 2|delays 0 0|ring 1|lag 1|ticks 9|holdoff 1|fail 0 1 2 0|holdoff 3| => 5;;fault: line 8: order|\
+        help: the line holdoff stands already in line 6|\n\
+    walk;lines 2|delays 0 0|ring 1|lag 1|ticks 9|holdoff 1|restore 1|add 0 0|restore x| => 5;;fault: line 9: order|\
+        help: the line restore stands already in line 7|\n\
+    walk;lines 2|delays 0 0|ring 1|lag 1|ticks 9|holdoff 1|fail 0 1 2 0|restore 3| => 5;;fault: line 8: order|\
         help: configuration stands before fail and lost|\n\
+    walk;lines 2|delays 0 0|ring 1|lag 1|ticks 9|statuses 32|drain|statuses| => 5;;fault: line 8: order|\
+        help: the line statuses stands already in line 6|\n\
     walk;lines 2|holdoff 3| => 5;;fault: line 2: missing|help: the line delays has to stand here|\n\
     walk;lines 2|delays 0 0|ring 1|lag 1|statuses 16| => 5;;fault: line 5: missing|\
         help: the line ticks has to stand here|\n\

@@ -19,9 +19,21 @@ fn fault_rows() -> &'static str {
     lines 1|add 0 0 => 5;;fault: line 2: missing|help: the line delays has to stand here|\n\
     ring => 5;;fault: line 1: missing|help: the line lines has to stand here|\n\
     lines 1|delays 0|ring 1|lag 1|ticks 9|ring 1 => 5;;fault: line 6: order|\
-        help: configuration stands before fail and lost|\n\
+        help: the line ring stands already in line 3|\n\
+    lines 1|delays 0|ring 1|lag 1|ticks 9|delays 0 => 5;;fault: line 6: order|\
+        help: the line delays stands already in line 2|\n\
+    lines 1|delays 0|ring 1|lag 1|ticks 9|fail 0 1 2 0|ring 1 => 5;;fault: line 7: order|\
+        help: the line ring stands already in line 3|\n\
+    # a||lines 1|delays 0|# b|ring 1|lag 1|ticks 9|add 0 0||ring => 5;;fault: line 11: order|\
+        help: the line ring stands already in line 6|\n\
+    lines 1|delays 0|ring 1|lag 1|ticks 9|tick 1|lag 1 => 5;;fault: line 7: order|\
+        help: the line lag stands already in line 4|\n\
     lines 1|delays 0|ring 1|lag 1|ticks 9|container vc3 => 5;;fault: line 6: order|\
-        help: configuration stands before fail and lost|\n\
+        help: the line container stands before the line lines|\n\
+    lines 1|delays 0|ring 1|lag 1|ticks 9|container vc4 => 5;;fault: line 6: order|\
+        help: the line container stands before the line lines|\n\
+    container vc3|lines 1|delays 0|ring 1|lag 1|ticks 9|container vc4 => 5;;fault: line 7: order|\
+        help: the line container stands already in line 1|\n\
     lines 1|delays 0|ring 1|lag 1|ticks 9|add 0 0|fail => 5;;fault: line 7: order|\
         help: fail and lost stands before frame, stream, add and remove|\n\
     lines 1|delays 0|ring 1|lag 1|ticks 9|tick 1|lost 0 1 => 5;;fault: line 7: order|\
@@ -30,19 +42,20 @@ fn fault_rows() -> &'static str {
         help: frame, stream, add and remove stands before event lines|\n\
     lines 1|delays 0|ring 1|lag 1|ticks 9|Add 0 0 => 5;;fault: line 6: word|help: ~|\n\
     lines 1|delays 0|ring 1|lag 1|ticks 9|ticks9 => 5;;fault: line 6: word|help: ~|\n\
-    lines => 5;;fault: line 1: word|help: lines takes 1 words, and 0 follow|\n\
-    lines x y => 5;;fault: line 1: word|help: lines takes 1 words, and 2 follow|\n\
-    lines 2|delays 0 => 5;;fault: line 2: word|help: delays takes 2 words, and 1 follow|\n\
+    lines => 5;;fault: line 1: word|help: lines takes 1 word, and 0 follow|\n\
+    lines x y => 5;;fault: line 1: word|help: lines takes 1 word, and 2 follow|\n\
+    lines 2|delays 0 => 5;;fault: line 2: word|help: delays takes 2 words, and 1 follows|\n\
     lines 2|delays 0 0 0 => 5;;fault: line 2: word|help: delays takes 2 words, and 3 follow|\n\
     lines 1|delays 0|ring 1|lag 1|ticks 9|fail 0 0 1 => 5;;fault: line 6: word|\
         help: fail takes 4 words, and 3 follow|\n\
     lines 1|delays 0|ring 1|lag 1|ticks 9|lost 0 1 2 => 5;;fault: line 6: word|\
         help: lost takes 2 words, and 3 follow|\n\
-    lines 1|delays 0|ring 1|lag 1|ticks 9|frame 0 => 5;;fault: line 6: word|help: frame takes 2 words, and 1 follow|\n\
+    lines 1|delays 0|ring 1|lag 1|ticks 9|frame 0 => 5;;fault: line 6: word|help: frame takes 2 words, and 1 follows|\n\
     lines 1|delays 0|ring 1|lag 1|ticks 9|add 0 0 0 => 5;;fault: line 6: word|help: add takes 2 words, and 3 follow|\n\
-    lines 1|delays 0|ring 1|lag 1|ticks 9|carry 0 => 5;;fault: line 6: word|help: carry takes 2 words, and 1 follow|\n\
-    lines 1|delays 0|ring 1|lag 1|ticks 9|round => 5;;fault: line 6: word|help: round takes 1 words, and 0 follow|\n\
-    lines 1|delays 0|ring 1|lag 1|ticks 9|drain 1 => 5;;fault: line 6: word|help: drain takes 0 words, and 1 follow|\n\
+    lines 1|delays 0|ring 1|lag 1|ticks 9|carry 0 => 5;;fault: line 6: word|help: carry takes 2 words, and 1 follows|\n\
+    lines 1|delays 0|ring 1|lag 1|ticks 9|round => 5;;fault: line 6: word|help: round takes 1 word, and 0 follow|\n\
+    lines 1|delays 0|ring 1|lag 1|ticks 9|add 0 => 5;;fault: line 6: word|help: add takes 2 words, and 1 follows|\n\
+    lines 1|delays 0|ring 1|lag 1|ticks 9|drain 1 => 5;;fault: line 6: word|help: drain takes 0 words, and 1 follows|\n\
     container vc5 => 5;;fault: line 1: word|help: word 2 is vc3 or vc4|\n\
     lines 00000000001 => 5;;fault: line 1: number|help: word 2 is a number of one to ten digits|\n\
     lines 9999999999 => 5;;fault: line 1: range|help: word 2 is from 1 to 128|\n\
@@ -59,6 +72,21 @@ fn fault_rows() -> &'static str {
     lines 1|delays 0|ring 1|lag 1|ticks 9|fail 0 9999999999 9 x => 5;;fault: line 6: range|help: word 4 is at most 9|\n\
     lines 1|delays 0|ring 1|lag 1|ticks 9|fail 0 99999999999 x 0 => 5;;fault: line 6: number|\
         help: word 3 is a number of one to ten digits|\n\
+    lines 1|delays 0|ring 1|lag 1|ticks 9|fail 0 1 5 -3 => 5;;fault: line 6: number|\
+        help: word 5 is a number of one to ten digits; a path that gets longer is no slip: SLIP is 0, and delays has \
+        the longer delay|\n\
+    lines 1|delays 0|ring 1|lag 1|ticks 9|fail 0 1 5 -1234567890 => 5;;fault: line 6: number|\
+        help: word 5 is a number of one to ten digits; a path that gets longer is no slip: SLIP is 0, and delays has \
+        the longer delay|\n\
+    lines 1|delays 0|ring 1|lag 1|ticks 9|fail 0 1 5 -x => 5;;fault: line 6: number|\
+        help: word 5 is a number of one to ten digits|\n\
+    lines 1|delays 0|ring 1|lag 1|ticks 9|fail 0 1 5 - => 5;;fault: line 6: number|\
+        help: word 5 is a number of one to ten digits|\n\
+    lines 1|delays 0|ring 1|lag 1|ticks 9|fail 0 1 5 -12345678901 => 5;;fault: line 6: number|\
+        help: word 5 is a number of one to ten digits|\n\
+    lines 1|delays 0|ring 1|lag 1|ticks 9|fail 0 1 -5 -3 => 5;;fault: line 6: number|\
+        help: word 4 is a number of one to ten digits|\n\
+    lines 1|delays 0|ring 1|lag 1|ticks 9|fail 0 10 5 -3 => 5;;fault: line 6: range|help: word 4 is at most 9|\n\
     lines 1|delays 0|ring 1|lag 1|ticks 9|fail 0 3 3 0 => 5;;fault: line 6: range|help: word 4 is from 4 to 9|\n\
     lines 1|delays 0|ring 1|lag 1|ticks 9|fail 0 0 10 0 => 5;;fault: line 6: range|help: word 4 is from 1 to 9|\n\
     lines 1|delays 0|ring 1|lag 1|ticks 9|fail 0 8 9 2048 => 5;;fault: line 6: range|help: word 5 is from 0 to 2047|\n\

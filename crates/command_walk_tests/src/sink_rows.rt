@@ -83,9 +83,9 @@ fn faulty_rows() -> &'static str {
     walk;lines 2|delays 0 0|ring 1|lag 1|ticks 9|sink Stops| => 5;;fault: line 6: word|\
         help: word 2 is stops or infers|\n\
     walk;lines 2|delays 0 0|ring 1|lag 1|ticks 9|sink| => 5;;fault: line 6: word|\
-        help: sink takes 1 words, and 0 follow|\n\
+        help: sink takes 1 word, and 0 follow|\n\
     walk;lines 2|delays 0 0|ring 1|lag 1|ticks 9|sink stops infers| => 5;;fault: line 6: word|\
-        help: sink takes 1 words, and 2 follow|\n\
+        help: sink takes 1 word, and 2 follow|\n\
     walk;lines 2|delays 0 0|ring 1|lag 1|ticks 9|sink infers|sink stops| => 5;;fault: line 7: range|\
         help: there is a sink line already|\n\
     walk;lines 2|delays 0 0|ring 1|lag 1|ticks 9|sink stops|holdoff 3|sink stops| => 5;;fault: line 8: range|\
@@ -99,7 +99,9 @@ fn faulty_rows() -> &'static str {
     walk;lines 2|delays 0 0|ring 1|lag 1|ticks 9|drain|sink stops| => 5;;fault: line 7: order|\
         help: configuration stands before event lines|\n\
     walk;lines 2|delays 0 0|ring 1|lag 1|ticks 9|sink stops|ticks 9| => 5;;fault: line 7: order|\
-        help: configuration stands before fail and lost|\n\
+        help: the line ticks stands already in line 5|\n\
+    walk;lines 2|delays 0 0|ring 1|lag 1|ticks 9|sink stops|lost 0 1|sink infers| => 5;;fault: line 8: order|\
+        help: the line sink stands already in line 6|\n\
     walk;lines 2|sink infers| => 5;;fault: line 2: missing|help: the line delays has to stand here|\n\
     walk;lines 2|delays 0 0|ring 1|lag 1|sink stops|ticks 9| => 5;;fault: line 5: missing|\
         help: the line ticks has to stand here|"

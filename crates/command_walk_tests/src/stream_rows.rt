@@ -56,8 +56,8 @@ fn fault_rows() -> &'static str {
         stream, add and remove stands before event lines|\n\
     lines 1|delays 0|ring 1|lag 1|ticks 9|stream 64 1 0 9 1|fail 0 3 4 0 => 5;;fault: line 7: order|help: fail \
         and lost stands before frame, stream, add and remove|\n\
-    lines 1|delays 0|ring 1|lag 1|ticks 9|stream 64 1 0 9 1|lines 1 => 5;;fault: line 7: order|help: \
-        configuration stands before frame, stream, add and remove|\n\
+    lines 1|delays 0|ring 1|lag 1|ticks 9|stream 64 1 0 9 1|lines 1 => 5;;fault: line 7: order|help: the \
+        line lines stands already in line 1|\n\
     lines 1|delays 0|ring 1|lag 1|ticks 100000|stream 64 400000 0 2749 1 => 5;;fault: line 6: range|help: a \
         script has at most 268435456 items, and this line brings it to 268457032|\n\
     lines 1|delays 0|ring 1|lag 1|ticks 100000|frame 5 00|stream 64 400000 4 2753 1 => 5;;fault: line 7: range|\

@@ -49,6 +49,9 @@ fn answer_rows() -> &'static str {
     check;lines 1|delays 0|ring 1|lag 1|ticks 60|add 0 0|add 20 0|remove 55 3|frame 5 5a*64|frame 29 5a*63|\
         frame 50 5a*64|round 30| => 0+;line 0 unused|early 1 none|item 1 refused already in|\
         check unused 1 idle 0 early 1 refused 1|;\n\
+    check;lines 2|delays 0 0|ring 1|lag 1|ticks 1|add 0 2|add 0 255| => 0+;line 0 unused|line 1 unused|\
+        item 0 refused unknown lines 0 to 1|item 1 refused unknown lines 0 to 1|\
+        check unused 2 idle 0 early 0 refused 2|;\n\
     check;lines 1|delays 0|ring 1|lag 1|ticks 1| => 0+;line 0 unused|check unused 1 idle 0 early 0 refused 0|;\n\
     h4 0;lines 1|delays 0|ring 1|lag 1|ticks 41|add 0 0| => 0+;000102030405060708090a1b0c0d0e0f|\
         001112130405060708090a1b0c0d0e0f|002132130415164708|;\n\
@@ -104,6 +107,10 @@ fn usage_rows() -> &'static str {
     walk walk; => 2;;usage: vcat_walk ..\n\
     -h; => 2;;usage: vcat_walk ..\n\
     run 2; => 2;;usage: vcat_walk ..\n\
+    pair There; => 2;;usage: vcat_walk ..\n\
+    pair there back; => 2;;usage: vcat_walk ..\n\
+    there; => 2;;usage: vcat_walk ..\n\
+    pair -there; => 2;;usage: vcat_walk ..\n\
     make 1 1; => 2;;usage: vcat_walk .."
 }
 

@@ -2,9 +2,12 @@
 -- failure that is idle, one of frames that are early, if there are any, one for each item that was refused, and one of
 -- numbers.
 -- These texts are this project's own.
-use Rattle.std.specs.Prelude.{ℕ, nat_lt, if◌then◌else◌, List, [], ◌++◌, length, Option, Some, None, codes, decimal}
+use Rattle.std.specs.Prelude.{ℕ, ◌-◌, nat_lt, if◌then◌else◌, List, [], ◌++◌, length, Option, Some, None, codes, decimal}
 use Rattle.std.specs.List.{flat_map}
 use Rattle.law_model.specs.declared.item_refusals.Refusal.{Refusal}
+use Rattle.law_model.specs.declared.item_refusals.Refusal.TheVariants.{Command, Frame}
+use Rattle.law_model.specs.declared.item_refusals.CommandFault.{CommandFault}
+use Rattle.law_model.specs.declared.item_refusals.CommandFault.TheVariants.{UnknownLine}
 use Rattle.law_model.specs.declared.window_types.Window.{Window}
 use Rattle.law_model.specs.session.Leg.{Leg}
 use Rattle.law_model.specs.session.Counts.{Counts}
@@ -35,9 +38,19 @@ early_text frames row = codes "early " ++ decimal frames ++ codes " " ++ row_tex
 abbrev pub early_if_any : ℕ → Option ℕ → List ℕ
 early_if_any frames row = if nat_lt 0 frames then early_text frames row else []
 
+-- which lines there are, where a command is for none of them
+abbrev pub known_text : CommandFault → List ℕ
+known_text (UnknownLine lines) = codes " lines 0 to " ++ decimal (lines - 1)
+known_text fault = []
+
+abbrev pub lines_text : Refusal → List ℕ
+lines_text (Command fault) = known_text fault
+lines_text (Frame fault) = []
+
 abbrev pub refused_item : ℕ → Refusal → List ℕ
 refused_item item why =
-    codes "item " ++ decimal item ++ codes " " ++ (codes "refused " ++ refusal_text why) ++ codes "\n"
+    codes "item " ++ decimal item ++ codes " " ++ (codes "refused " ++ refusal_text why) ++ lines_text why
+    ++ codes "\n"
 
 abbrev pub last_text : Found → List ℕ
 last_text found =

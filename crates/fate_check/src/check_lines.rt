@@ -1,10 +1,11 @@
 //! The lines, each put together in a slice with room for it. The length of a line is the answer.
 ghost use Rattle.std.specs.Prelude.{◌≡◌, ◌+◌, ◌≤◌, length, take};
 ghost use Rattle.text_report.specs.TextCursor.{Extends, HasTextRoom};
-ghost use Rattle.fate_check.specs.CheckText.{unused_text, idle_text, row_text, early_text, refused_item, last_text};
+ghost use Rattle.fate_check.specs.CheckText.{unused_text, idle_text, row_text, early_text, known_text, lines_text};
+ghost use Rattle.fate_check.specs.CheckText.{refused_item, last_text};
 
 use fate_engine::fate_text::add_refused;
-use law_model::{Refusal, Window};
+use law_model::{CommandFault, Refusal, Window};
 use text_report::TextCursor;
 
 /// Room for a line, in octets.
@@ -81,6 +82,32 @@ pub(crate) fn early_line(frames: u32, row: Option<u32>, out: &mut [u8]) -> usize
     line.end()
 }
 
+/// Adds which lines there are, where a command is for none of them.
+fn add_known(line: &mut TextCursor, fault: CommandFault)
+    requires { HasTextRoom line.old 15 }
+    ensures text { Extends line.old line.new (known_text fault) }
+    ensures end { line.new.at ≤ line.old.at + 15 }
+{
+    match fault {
+        CommandFault::UnknownLine { lines } => {
+            line.number(b" lines 0 to ", lines.saturating_sub(1));
+        }
+        _ => {}
+    }
+}
+
+/// Adds which lines there are, where an item is a command for none of them.
+fn add_lines(line: &mut TextCursor, why: Refusal)
+    requires { HasTextRoom line.old 15 }
+    ensures text { Extends line.old line.new (lines_text why) }
+    ensures end { line.new.at ≤ line.old.at + 15 }
+{
+    match why {
+        Refusal::Command(fault) => add_known(line, fault),
+        Refusal::Frame(_) => {}
+    }
+}
+
 /// The line of an item that was refused.
 pub(crate) fn refused_line(item: u32, why: Refusal, out: &mut [u8]) -> usize
     requires room { 128 ≤ length out.old }
@@ -92,6 +119,7 @@ pub(crate) fn refused_line(item: u32, why: Refusal, out: &mut [u8]) -> usize
     line.decimal(item);
     line.text(b" ");
     add_refused(&mut line, why);
+    add_lines(&mut line, why);
     line.text(b"\n");
     line.end()
 }

@@ -17,7 +17,7 @@ use Rattle.std.proofs.lemmas.Bool.{cases_lt}
 use Rattle.law_model.proofs.ListLaws.{slice_get-append, slice_get-append_seam}
 use Rattle.law_model.specs.Common.{Scenario, Told, width, place_of, most_lines, most_packets}
 use Rattle.fate_engine.specs.Common.{PacketList, ArePackets, ArePacketRuns, IsRun, active_in, lines_of, octets_of, start_by}
-use Rattle.fate_engine.specs.Common.{packets_in, Follows, IsPacketList}
+use Rattle.fate_engine.specs.Common.{packets_in, Follows, AreApart, IsPacketList}
 use Rattle.fate_engine.specs.declared.fate_core.packet_rows.Run.{Run}
 
 -- The places at which rows begin, by the runs of packets that govern them.
@@ -432,13 +432,55 @@ module _ (runs : List Run) (last : ℕ) (run : Run) (count : suc last ≡ length
         subst (ArePacketRuns size) (sym with-longer) (with-run size (take last runs) (longer run) parts.0
         (record { narrow = parts.1.narrow; row = parts.1.row; start = parts.1.start }))
 
+-- ---- runs that are the longest ones
+pub apart-new : (runs : List Run) (run : Run) →
+    ((last : Run) → slice_get runs (length runs - 1) ≡ Some last → last.lines.items ≡ run.lines.items → ⊥) →
+    AreApart runs → AreApart (runs ++ run ∷ [])
+apart-new runs run other are = record {
+  apart = λ i one two here there same. elim (front-or-last runs run (suc i) two there) [
+    | inl before ↦ are.apart i one two
+        (sym (slice_get-append runs (run ∷ []) i (let low = before.1 in omega (arith, low))) ∙ here) before.0 same
+    | inr last ↦
+        let low : i < length runs = (let at = last.1 in omega (arith, at)) in
+        let end : i ≡ length runs - 1 = (let at = last.1 in omega (arith, at)) in
+        other one (ap (slice_get runs) (sym end) ∙ sym (slice_get-append runs (run ∷ []) i low) ∙ here)
+        (same ∙ ap (λ (r : Run). r.lines.items) last.0)
+  ];
+}
+
+-- with other numbers of packets
+apart-lines : (front : List Run) (one two : Run) → one.lines.items ≡ two.lines.items →
+    AreApart (front ++ one ∷ []) → AreApart (front ++ two ∷ [])
+apart-lines front one two lines are = record {
+  apart = λ i a b here there same. elim (front-or-last front two (suc i) b there) [
+    | inl before ↦
+        let low : i < length front = (let at = before.1 in omega (arith, at)) in
+        are.apart i a b
+        (slice_get-append front (one ∷ []) i low ∙ sym (slice_get-append front (two ∷ []) i low) ∙ here)
+        (slice_get-append front (one ∷ []) (suc i) before.1 ∙ before.0) same
+    | inr last ↦
+        let low : i < length front = (let at = last.1 in omega (arith, at)) in
+        are.apart i a one
+        (slice_get-append front (one ∷ []) i low ∙ sym (slice_get-append front (two ∷ []) i low) ∙ here)
+        (ap (slice_get (front ++ one ∷ [])) last.1 ∙ slice_get-append_seam front one [])
+        (same ∙ ap (λ (r : Run). r.lines.items) last.0 ∙ sym lines)
+  ];
+}
+
+pub apart-longer : (runs : List Run) (last : ℕ) (run : Run) → suc last ≡ length runs → slice_get runs last ≡ Some run →
+    AreApart runs → AreApart (set runs last (longer run))
+apart-longer runs last run count there are =
+    subst AreApart (sym (with-longer runs last run count there))
+    (apart-lines (take last runs) run (longer run) refl (subst AreApart (with-last runs last run count there) are))
+
 pub grown : (size : ℕ) (runs : List Run) (count end : ℕ) → IsPacketList size runs count end →
-    (more : List Run) (lines : List ℕ) (octets-more : ℕ) → ArePacketRuns size more →
+    (more : List Run) (lines : List ℕ) (octets-more : ℕ) → ArePacketRuns size more → AreApart more →
     active_in more ≡ active_in runs ++ lines ∷ [] → count < most_packets → octets-more ≡ size * length lines * 16 →
     IsPacketList size more (count + 1) (end + octets-more)
-grown size runs count end is more lines octets-more are active few own = record {
+grown size runs count end is more lines octets-more are apart active few own = record {
   small = is.small;
   begin = are;
+  longest = apart;
   all = (let all = is.all in omega (arith, all, ap length active, length-append (active_in runs) (lines ∷ [])));
   few = omega (arith, few);
   ends =

@@ -1,6 +1,6 @@
 -- The words that most definitions and proofs cite, passed on from one place. Declares nothing.
 pub use Rattle.fate_engine.specs.fate_core.FateBySegment.{begins_from, fate_around, fate_by_mark, is_true_of, settles}
-pub use Rattle.fate_engine.specs.fate_core.Packets.{ArePacketRuns, ArePackets, Follows, IsPacketList, IsRun, PacketList}
+pub use Rattle.fate_engine.specs.fate_core.Packets.{AreApart, ArePacketRuns, ArePackets, Follows, IsPacketList, IsRun, PacketList}
 pub use Rattle.fate_engine.specs.fate_core.Packets.{active_in, lines_of, octets_of, packets_in, start_by}
 pub use Rattle.fate_engine.specs.fate_core.Runs.{AreRuns, RunList}
 unfoldable pub use Rattle.fate_engine.specs.fate_core.Runs.{with_row}

@@ -22,8 +22,8 @@ use Rattle.fate_service.specs.Outages.{losses, next_first, outages_of}
 use Rattle.fate_service.specs.Stretches.{spans_on, Known, stretch_of, spans_of, told_on}
 use Rattle.fate_service.specs.Surveyed.{next_run, run_text}
 use Rattle.fate_service.specs.ServiceText.{members_text, outage_text, outages_text, stretches_text, delays_text}
-use Rattle.fate_service.specs.ServiceText.{last_text, widths_of, service_text}
-use Rattle.law_model.specs.Common.{Counts, begin, Leg, scenario_by, IsSound, place_of, stream_before, most_lines}
+use Rattle.fate_service.specs.ServiceText.{last_text, widths_of, service_text, service_with}
+use Rattle.law_model.specs.Common.{Counts, begin, Leg, greatest, scenario_by, IsSound, place_of, stream_before, most_lines}
 use Rattle.law_walk.specs.Common.{session_rows, landed_items, numbered, session_pieces, session_of, walk_plan}
 use Rattle.law_walk.proofs.AcceptedFrameAndDrainedWalkLaws.{drained-ticks, drained-landed, drain-ends}
 use Rattle.law_walk.proofs.WalkPlanAndPoppedCellLaws.{sound-walks, begins-walked}
@@ -189,36 +189,36 @@ ends_among leg ticks rows all = record {
 abbrev told_among : ℕ → List EndedItem → ℕ
 told_among ticks all = told_on ticks (offered_of all)
 
-abbrev service_among : Leg → ℕ → ℕ → ℕ → List EndedItem → List ℕ
-service_among leg interval ticks rows all =
+abbrev service_among : ℕ → Leg → ℕ → ℕ → ℕ → List EndedItem → List ℕ
+service_among path leg interval ticks rows all =
     flat_map (members_text leg.config.size) (runs_of (widths_of leg rows))
     ++ outages_text (row_cause (scenario_by leg) (session_of leg)) (carried_of all) rows
     (outages_of (states_of (session_rows leg rows)))
     ++ stretches_text (known_among leg ticks rows all) (spans_of interval (told_among ticks all))
-    ++ delays_text (delays_of (carried_of all))
+    ++ delays_text (delays_of (carried_of all)) path
     ++ last_text (told_among ticks all) (stretch_of (known_among leg ticks rows all) 0 (told_among ticks all))
     (ends_among leg ticks rows all)
 
-whole-service : (leg : Leg) (interval : ℕ) → IsSound leg → service_text leg (whole_walk leg) interval
-    ≡ service_among leg interval leg.config.ticks leg.config.ticks
+whole-service : (path : ℕ) (leg : Leg) (interval : ℕ) → IsSound leg → service_with path leg (whole_walk leg) interval
+    ≡ service_among path leg interval leg.config.ticks leg.config.ticks
     (ended_among leg leg.config.ticks (numbered 0 leg.items))
-whole-service leg interval sound =
+whole-service path leg interval sound =
     let start : Counts = begin (walk_plan leg) in
     let s : Counts = whole_walk leg in
     let n : ℕ = leg.config.ticks in
     let walked = begins-walked leg in
-    ap (λ ticks. service_among leg interval ticks s.rows (ended_of leg s)) (drained-ticks leg start sound walked)
-    ∙ ap (λ rows. service_among leg interval n rows (ended_among leg rows (landed_items leg s)))
+    ap (λ ticks. service_among path leg interval ticks s.rows (ended_of leg s)) (drained-ticks leg start sound walked)
+    ∙ ap (λ rows. service_among path leg interval n rows (ended_among leg rows (landed_items leg s)))
     (drain-ends leg start (sound-walks leg sound) walked)
-    ∙ ap (λ items. service_among leg interval n n (ended_among leg n items)) (drained-landed leg start sound walked)
+    ∙ ap (λ items. service_among path leg interval n n (ended_among leg n items)) (drained-landed leg start sound walked)
 
 pub same-service : (leg : Leg) (delays : List ℕ) (ring interval : ℕ) → IsSound leg →
     IsSound (with_delays leg delays ring) →
     service_text (with_delays leg delays ring) (whole_walk (with_delays leg delays ring)) interval
-    ≡ service_text leg (whole_walk leg) interval
+    ≡ service_with (greatest delays) leg (whole_walk leg) interval
 same-service leg delays ring interval sound other =
     let n : ℕ = leg.config.ticks in
-    whole-service (with_delays leg delays ring) interval other
-    ∙ ap (service_among leg interval n n)
+    whole-service (greatest delays) (with_delays leg delays ring) interval other
+    ∙ ap (service_among (greatest delays) leg interval n n)
     (ended-same leg delays ring (fate_at (session_pieces leg) (session_rows leg n)) (numbered 0 leg.items) 0)
-    ∙ sym (whole-service leg interval sound)
+    ∙ sym (whole-service (greatest delays) leg interval sound)

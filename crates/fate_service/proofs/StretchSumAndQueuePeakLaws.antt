@@ -264,12 +264,12 @@ pub text-lines : (leg : Leg) (s : Counts) (interval : ℕ) → service_text leg 
     ≡ flat_map (members_text leg.config.size) (members_in leg s)
     ++ flat_map (outage_line_text (row_cause (scenario_by leg) (session_of leg))) (outages_in leg s)
     ++ flat_map stretch_line_text (stretches_in leg s interval)
-    ++ delays_text (delays_of (carried_of (ended_of leg s)))
+    ++ delays_text (delays_of (carried_of (ended_of leg s))) (greatest leg.config.delays)
     ++ last_text (told_of leg s) (all_of leg s) (ends_of leg s)
 text-lines leg s interval =
     ap₂ (λ a b. flat_map (members_text leg.config.size) (members_in leg s) ++ a ++ b
-    ++ delays_text (delays_of (carried_of (ended_of leg s))) ++ last_text (told_of leg s) (all_of leg s)
-    (ends_of leg s))
+    ++ delays_text (delays_of (carried_of (ended_of leg s))) (greatest leg.config.delays)
+    ++ last_text (told_of leg s) (all_of leg s) (ends_of leg s))
     (outages-lines (row_cause (scenario_by leg) (session_of leg)) (carried_of (ended_of leg s)) s.rows
     (outages_of (states_of (session_rows leg s.rows))))
     (stretches-lines (known_of leg s) (spans_of interval (told_of leg s)))

@@ -2,7 +2,7 @@
 -- one for each stretch, one of delays, and one of all ticks. These texts are this project's own.
 use Rattle.std.specs.Prelude.{ℕ, ◌*◌, List, [], ◌∷◌, ◌++◌, length, map, Option, Some, None, codes, decimal}
 use Rattle.std.specs.List.{flat_map, range_with_len}
-use Rattle.law_model.specs.Common.{Leg, Counts, scenario_by, width, place_of, stream_before}
+use Rattle.law_model.specs.Common.{Leg, Counts, greatest, scenario_by, width, place_of, stream_before}
 use Rattle.law_walk.specs.Common.{session_of, session_rows, session_pieces}
 use Rattle.fate_engine.specs.Common.{ruler_of, are_true_marks, row_cause, ended_of, cause_text, truth_text}
 use Rattle.fate_engine.specs.declared.fate_law.Cause.{Cause}
@@ -62,17 +62,19 @@ counts_text first end stretch =
 abbrev pub stretch_text : ℕ → ℕ → Stretch → List ℕ
 stretch_text first end stretch = codes "stretch " ++ counts_text first end stretch ++ codes "\n"
 
-abbrev pub delays_text : Delays → List ℕ
-delays_text delays =
+-- the delays of the frames that were got, and the greatest delay of a line
+abbrev pub delays_text : Delays → ℕ → List ℕ
+delays_text delays path =
     codes "delays least " ++ decimal delays.least ++ codes " half " ++ decimal delays.half ++ codes " most "
-    ++ decimal delays.most ++ codes " greatest " ++ decimal delays.greatest ++ codes "\n"
+    ++ decimal delays.most ++ codes " greatest " ++ decimal delays.greatest ++ codes " path " ++ decimal path ++ codes "\n"
 
 abbrev pub left_text : ℕ → Tally → List ℕ
 left_text outages waits = codes " outages " ++ decimal outages ++ codes " waits " ++ tally_text waits
 
 abbrev pub ends_text : Ends → List ℕ
 ends_text ends =
-    left_text ends.outages ends.waits ++ codes " ticks " ++ decimal ends.ticks ++ codes " taken " ++ decimal ends.taken ++ codes " starts " ++ truth_text ends.starts
+    left_text ends.outages ends.waits ++ codes " ticks " ++ decimal ends.ticks ++ codes " taken " ++ decimal ends.taken
+    ++ codes " starts " ++ truth_text ends.starts
 
 abbrev pub last_text : ℕ → Stretch → Ends → List ℕ
 last_text end stretch ends =
@@ -118,11 +120,16 @@ abbrev pub stretches_text : Known → List (ℕ × ℕ) → List ℕ
 stretches_text known spans =
     flat_map (λ (span : ℕ × ℕ). stretch_text span.0 span.1 (stretch_of known span.0 span.1)) spans
 
-abbrev pub service_text : Leg → Counts → ℕ → List ℕ
-service_text leg s interval =
+-- with this number as the greatest delay of a line
+abbrev pub service_with : ℕ → Leg → Counts → ℕ → List ℕ
+service_with path leg s interval =
     flat_map (members_text leg.config.size) (runs_of (widths_of leg s.rows))
     ++ outages_text (row_cause (scenario_by leg) (session_of leg)) (carried_of (ended_of leg s)) s.rows
     (outages_of (states_of (session_rows leg s.rows)))
     ++ stretches_text (known_of leg s) (spans_of interval (told_of leg s))
-    ++ delays_text (delays_of (carried_of (ended_of leg s)))
+    ++ delays_text (delays_of (carried_of (ended_of leg s))) path
     ++ last_text (told_of leg s) (stretch_of (known_of leg s) 0 (told_of leg s)) (ends_of leg s)
+
+-- of a line of the leg, of a member or not: a row is taken once each line has decided it
+abbrev pub service_text : Leg → Counts → ℕ → List ℕ
+service_text leg = service_with (greatest leg.config.delays) leg

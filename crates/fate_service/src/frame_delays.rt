@@ -1,11 +1,13 @@
-//! The delays of the frames that were got.
+//! The delays of the frames that were got, and the greatest delay of a line.
 
 ghost use Rattle.std.specs.Prelude.{◌≡◌, ◌<◌, ◌&&◌, nat_le, length};
+ghost use Rattle.law_model.specs.Common.{greatest};
 ghost use Rattle.fate_service.specs.Stretches.{delay_of};
 ghost use Rattle.fate_service.specs.Delays.{count_within, least_delay, delays_of};
 
 use crate::landed_frames::CarriedFrame;
 use crate::stretch_counts::{count_ended, delay_of};
+use law_model::Delays as LineDelays;
 
 /// Delays in ticks, 0 where no frame was got.
 #[derive(Clone, Copy)]
@@ -72,4 +74,15 @@ pub(crate) fn find_delays(carried: &[CarriedFrame]) -> Delays
         most: least_delay(carried, (99 * got + 99) / 100, all.delay),
         greatest: all.delay,
     }
+}
+
+/// The greatest delay of a line, in ticks.
+pub(crate) fn greatest_delay(delays: &LineDelays) -> u16
+    ensures { result ≡ greatest delays.now }
+{
+    let mut most = 0;
+    for delay in &delays.0 {
+        most = most.max(*delay);
+    }
+    most
 }

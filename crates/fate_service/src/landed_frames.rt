@@ -1,6 +1,6 @@
 //! The client's frames that have landed in a walk, in the columns that the sums need.
 ghost use Rattle.std.specs.Prelude.{◌≡◌, ◌+◌, ◌^◌, ◌<◌, ◌≤◌, [], ◌∷◌, ◌++◌, length, OnOk, IfOk, is_none};
-ghost use Rattle.std.specs.Prelude.{option_to_list};
+ghost use Rattle.std.specs.Prelude.{option_to_list, vec_capacity};
 ghost use Rattle.law_model.specs.Common.{leg_of, most_items};
 ghost use Rattle.fate_engine.specs.Common.{accepted, does_wait, ended_of};
 ghost use Rattle.fate_walks.specs.walk_fates.MadeWalk.{SeesWalk, fates_in, end_by};
@@ -124,7 +124,10 @@ fn carried(due: u32, octets: u16, at: u32, last: u32, got: bool) -> Option<Carri
 impl LandedFrames {
     /// Before the first frame, with room for so many, of which so many are accepted.
     fn new(alloc: Global, offered: u32, accepted: u32) -> Result<LandedFrames, AllocError>
-        ensures { IfOk result (AreLanded []) }
+        ensures landed { IfOk result (AreLanded []) }
+        ensures offered { IfOk result (λ landed. offered ≤ vec_capacity landed.offered) }
+        ensures accepted { IfOk result (λ landed. accepted ≤ vec_capacity landed.accepted) }
+        ensures carried { IfOk result (λ landed. accepted ≤ vec_capacity landed.carried) }
     {
         Ok(LandedFrames {
             offered: Vec::with_capacity(alloc, offered as usize)?,

@@ -34,6 +34,7 @@ ghost use Rattle.fate_service.specs.Outages.{next_first};
 ghost use Rattle.fate_service.specs.Stretches.{peak_in, spans_of};
 ghost use Rattle.fate_service.specs.Delays.{delays_of};
 ghost use Rattle.fate_service.specs.ServiceText.{members_text, delays_text, last_text, told_of, ends_of, service_text};
+ghost use Rattle.fate_service.specs.ServiceText.{service_with};
 ghost use Rattle.fate_service.specs.service_law.LinesAsNumbers.{members_in, OutageLine, outages_in, outage_line_text};
 ghost use Rattle.fate_service.specs.service_law.LinesAsNumbers.{StretchLine, stretches_in, stretch_line_text, all_of};
 ghost use Rattle.fate_service.specs.service_law.LinesAsNumbers.{queue_of, waiting_in};
@@ -55,7 +56,7 @@ pub fn stretch_law()
         ≡ flat_map (members_text leg.config.size) (members_in leg s)
         ++ flat_map (outage_line_text (row_cause (scenario_by leg) (session_of leg)))
         (outages_in leg s) ++ flat_map stretch_line_text (stretches_in leg s interval)
-        ++ delays_text (delays_of (carried_of (ended_of leg s)))
+        ++ delays_text (delays_of (carried_of (ended_of leg s))) (greatest leg.config.delays)
         ++ last_text (told_of leg s) (all_of leg s) (ends_of leg s) }
     ensures follow { (leg : Leg) (s : Counts) (interval : ℕ) → 1 ≤ interval →
         FollowOn 0 (map (λ (line : StretchLine). (line.first, line.end)) (stretches_in leg s interval))
@@ -182,12 +183,12 @@ pub fn outage_law()
 {}
 
 /// Delays and rings cost time and no frame: of legs that differ in the delays of their lines and in the room of
-/// their rings alone, a walk without event lines has the same text.
+/// their rings alone, a walk without event lines has the same text, but for the greatest delay of a line.
 pub fn same_law()
     ensures { (leg : Leg) (delays : List ℕ) (ring interval : ℕ) → IsSound leg →
         IsSound (with_delays leg delays ring) →
         service_text (with_delays leg delays ring) (whole_walk (with_delays leg delays ring)) interval
-        ≡ service_text leg (whole_walk leg) interval }
+        ≡ service_with (greatest delays) leg (whole_walk leg) interval }
 {}
 
 /// Worked texts, computed: of one tick; and of a walk that stops before the last tick is made, with a frame that

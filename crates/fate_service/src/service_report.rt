@@ -19,7 +19,7 @@ ghost use Rattle.fate_service.specs.ServiceText.{members_text, outage_text, outa
 ghost use Rattle.fate_service.specs.ServiceText.{stretches_text, delays_text};
 ghost use Rattle.fate_service.specs.ServiceText.{known_of, ends_of, last_text, service_text};
 
-use crate::frame_delays::find_delays;
+use crate::frame_delays::{find_delays, greatest_delay};
 use crate::landed_frames::{LandedFrames, OfferedFrame, land_frames};
 use crate::outages::{Outage, find_outages, losses};
 use crate::row_states::{RowState, row_states};
@@ -237,15 +237,15 @@ fn write_stretches<K: ByteSink>(
     }
 }
 
-/// Writes the line of delays.
-fn write_delays<K: ByteSink>(survey: &Survey, got: &mut GotLines<K>)
+/// Writes the line of delays, with the greatest one of a line.
+fn write_delays<K: ByteSink>(survey: &Survey, path: u16, got: &mut GotLines<K>)
     requires { length survey.now.landed.carried.items < 4294967296 }
     ensures { (start : Start) (before : List ℕ) →
         HasText K.written K.faults got.old start before → HasText K.written K.faults got.new start
-        (before ++ delays_text (delays_of survey.now.landed.carried.items)) }
+        (before ++ delays_text (delays_of survey.now.landed.carried.items) path) }
 {
     let mut line = [0u8; ROOM];
-    let end = delays_line(find_delays(&survey.landed.carried), &mut line);
+    let end = delays_line(find_delays(&survey.landed.carried), path, &mut line);
     got.line(&line[..end]);
 }
 
@@ -297,12 +297,13 @@ pub fn write_service<K: ByteSink>(
 {
     let totals = walk.totals();
     let told = told_ticks(totals.ticks, &survey.landed.offered);
-    let size = walk.script().config.size;
+    let config = &walk.script().config;
+    let path = greatest_delay(&config.delays);
     let mut got = GotLines::new(out);
-    write_members(&seen.rows.packets, totals.taken, size, &mut got);
+    write_members(&seen.rows.packets, totals.taken, config.size, &mut got);
     write_outages(walk, seen, survey, &mut got);
     write_stretches(walk, seen, survey, interval, told, &mut got);
-    write_delays(survey, &mut got);
+    write_delays(survey, path, &mut got);
     write_end(walk, seen, survey, told, &mut got);
     let (back, end) = got.finish();
     take_back(back);

@@ -171,11 +171,11 @@ pub(crate) fn stretch_line(first: u32, end: u32, stretch: Stretch, out: &mut [u8
     line.end()
 }
 
-/// The line of delays.
-pub(crate) fn delays_line(delays: Delays, out: &mut [u8]) -> usize
+/// The line of delays, of the frames that were got and at its end the greatest one of a line.
+pub(crate) fn delays_line(delays: Delays, path: u16, out: &mut [u8]) -> usize
     requires room { 448 ≤ length out.old }
     ensures within { result ≤ 448 }
-    ensures line { take result out.new ≡ delays_text delays }
+    ensures line { take result out.new ≡ delays_text delays path }
 {
     let mut line = TextCursor::new(out);
     line.text(b"delays least ");
@@ -186,6 +186,8 @@ pub(crate) fn delays_line(delays: Delays, out: &mut [u8]) -> usize
     line.decimal(delays.most);
     line.text(b" greatest ");
     line.decimal(delays.greatest);
+    line.text(b" path ");
+    line.decimal(path);
     line.text(b"\n");
     line.end()
 }

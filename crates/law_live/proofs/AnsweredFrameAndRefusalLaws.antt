@@ -51,10 +51,6 @@ got-step : (made : Bool) (j : ℕ) → frames_got (if made then step_made j ∷ 
 got-step true j = refl
 got-step false j = refl
 
-times-step : (made : Bool) (j : ℕ) → times_told (if made then step_made j ∷ [] else []) ≡ []
-times-step true j = refl
-times-step false j = refl
-
 refused-step : (made : Bool) (j : ℕ) → items_refused (if made then step_made j ∷ [] else []) ≡ []
 refused-step true j = refl
 refused-step false j = refl
@@ -246,15 +242,24 @@ unfolding Rises
 rises-append a b c [] ys first second = rises-from a b c ys first second
 rises-append a b c (t ∷ xs) ys first second = (first.0, rises-append t b c xs ys first.1 second)
 
-times-round : (leg : Leg) (was now : Counts) → was.ticks ≤ now.ticks →
+-- a step is made in the last of these ticks
+times-step : (was now : ℕ) → was ≤ now → now ≤ was + 1 → Rises was now (times_told (steps_between was now))
+unfolding Rises
+times-step was now up most = elim (cases_Bool (nat_lt (steps_in was) (steps_in now))) [
+  | inl e ↦
+      let low = ltb-true (steps_in was) (steps_in now) e in
+      rw e (omega (arith, low, most), omega (arith, low, most))
+  | inr e ↦ rw e up
+]
+
+times-round : (leg : Leg) (was now : Counts) → was.ticks ≤ now.ticks → now.ticks ≤ was.ticks + 1 →
     Rises was.ticks now.ticks (times_told (round_answers leg was now))
-times-round leg was now up =
+times-round leg was now up most =
     let frames : List (List ℕ) = delivered_since leg was.rows now.rows in
     subst (Rises was.ticks now.ticks)
-    (sym (flat_map-append time_of (steps_between was.ticks now.ticks) (map (got_at now.ticks) frames)
-    ∙ ap (λ l. l ++ times_told (map (got_at now.ticks) frames))
-    (times-step (nat_lt (steps_in was.ticks) (steps_in now.ticks)) (steps_in was.ticks))))
-    (rises-from was.ticks now.ticks now.ticks (times_told (map (got_at now.ticks) frames)) up
+    (sym (flat_map-append time_of (steps_between was.ticks now.ticks) (map (got_at now.ticks) frames)))
+    (rises-append was.ticks now.ticks now.ticks (times_told (steps_between was.ticks now.ticks))
+    (times_told (map (got_at now.ticks) frames)) (times-step was.ticks now.ticks up most)
     (times-frames now.ticks frames))
 
 times-rounds : (n : ℕ) (leg : Leg) (s : Counts) →
@@ -264,9 +269,10 @@ times-rounds zero leg s = omega arith
 times-rounds (suc n) leg s =
     let next : Counts = live_round (walk_plan leg) s in
     let last : ℕ = (after_rounds n (walk_plan leg) next).ticks in
+    let goes = goes-round (walk_plan leg) s in
     subst (Rises s.ticks last) (sym (flat_map-append time_of (round_answers leg s next) (rounds_answers n leg next)))
     (rises-append s.ticks next.ticks last (times_told (round_answers leg s next))
-    (times_told (rounds_answers n leg next)) (times-round leg s next (goes-round (walk_plan leg) s).ticks)
+    (times_told (rounds_answers n leg next)) (times-round leg s next goes.ticks goes.most)
     (times-rounds n leg next))
 
 land-ticks : (ticks : ℕ) (o : Option ℕ) (s next : Counts) → next.ticks ≡ s.ticks →

@@ -4,4 +4,5 @@ pub mod ConversationCountAndScriptLaws
 pub mod LiveRoundAndLandingLaws
 pub mod SamePastRoundAndAnswerLaws
 pub mod SamePastTableAndCellLaws
+pub mod ToldMemberLaws
 pub mod WellSaidLegAndWindowLaws

@@ -15,4 +15,7 @@ pub use Rattle.law_live.specs.LiveAnswers.{answers_to, answers, frames_got, item
 pub use Rattle.law_live.specs.LiveAnswers.{got_at_text, now_text, answer_text, answers_text, unasked}
 pub use Rattle.law_live.specs.LiveAnswers.{last_text, report_said}
 unfoldable pub use Rattle.law_live.specs.LiveAnswers.{rounds_answers, answers_from, Rises}
+pub use Rattle.law_live.specs.LiveMembers.{member_code, code_at, MemberTold, told_of, told_among, members_in, member_text}
+pub use Rattle.law_live.specs.LiveMembers.{members_text, members_told, told_by, codes_of}
+unfoldable pub use Rattle.law_live.specs.LiveMembers.{last_code, Differ}
 pub use Rattle.law_live.specs.Agrees.{IsSameBelow, HasLater, Agrees}

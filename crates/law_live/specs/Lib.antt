@@ -3,6 +3,7 @@ pub mod WellSaid
 pub mod LiveCounts
 pub mod ScriptOfSayings
 pub mod LiveAnswers
+pub mod LiveMembers
 pub mod Agrees
 pub mod WorkedSayings
 pub mod Common

@@ -1,7 +1,7 @@
 -- What is answered to what is said: an item that is refused is told at once, and of ticks that pass the decision steps,
 -- the frames that come out, each with the ticks made by then, and how many have passed. These texts are this project's
 -- own.
-use Rattle.std.specs.Prelude.{ℕ, zero, suc, ◌+◌, ◌≤◌, nat_lt, List, [], ◌∷◌, ◌++◌, map, flat_map, codes}
+use Rattle.std.specs.Prelude.{ℕ, zero, suc, ◌+◌, ◌*◌, ◌≤◌, nat_lt, List, [], ◌∷◌, ◌++◌, map, flat_map, codes}
 use Rattle.std.specs.Prelude.{decimal, Option, Some, None, if◌then◌else◌}
 use Rattle.hex.specs.Hex.{encode_lower}
 use Rattle.text_report.specs.ReportLines.{got_texts, refused_text, refused_texts, total_text}
@@ -87,11 +87,11 @@ step_of (now_at ticks) = []
 
 abbrev pub time_of : Answer → List ℕ
 time_of (refused_item number why) = []
-time_of (step_made j) = []
+time_of (step_made j) = (16 * j + 9) ∷ []
 time_of (got_at ticks frame) = ticks ∷ []
 time_of (now_at ticks) = ticks ∷ []
 
--- the frames that came out, the items that were refused, the decision steps, and the ticks that were told
+-- the frames that came out, the items that were refused, the decision steps, and the ticks that were made by then
 abbrev pub frames_got : List Answer → List (List ℕ)
 frames_got told = flat_map got_of told
 

@@ -3,7 +3,7 @@
 //! and the answers, and the script of it all. There is no code here, and no language that says it. Begin at
 //! `script_law`, by which a walk of the script makes the same counts and writes the same frames; `said_law` is
 //! about what may be said, `pass_law` and `turn_law` about time, `answer_law` and `grow_law` about what is
-//! answered; `agree_law` about the legs of which all that is said,
+//! answered, and `member_law` about what it tells of the lines; `agree_law` about the legs of which all that is said,
 //! whatever is said later, and `later_law` about what these have in common.
 #![tactic(auto)]
 
@@ -14,6 +14,7 @@ mod ticks_that_pass;
 mod what_comes_later;
 mod what_is_answered;
 mod what_is_said;
+mod what_members_are_told;
 mod worked_conversations;
 
 pub use answers_that_grow::grow_law;
@@ -23,4 +24,5 @@ pub use ticks_that_pass::{pass_law, turn_law};
 pub use what_comes_later::later_law;
 pub use what_is_answered::answer_law;
 pub use what_is_said::said_law;
+pub use what_members_are_told::member_law;
 pub use worked_conversations::worked_law;

@@ -3,3 +3,4 @@ pub mod PairMeasureAndDrainLaws
 pub mod PairWayAndPacketLaws
 pub mod ReachedPairAndStallLaws
 mod WorkedPairLaws
+pub mod RunsOfPacketsLaws

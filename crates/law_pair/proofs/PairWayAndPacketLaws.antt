@@ -1,7 +1,7 @@
 -- The ways of a pair of scripts are sound legs; what the packets of one tell the other, and what both deliver.
 use Rattle.std.proofs.Common.{◌≡◌, ℕ, zero, suc, ◌+◌, ◌-◌, ◌*◌, ◌/◌, ◌%◌, ◌==◌, nat_lt, ◌&&◌, ◌||◌, not, Bool, true}
 use Rattle.std.proofs.Common.{if◌then◌else◌, List, [], ◌∷◌, ◌++◌, map, length, take, drop, slice_get, Option, Some}
-use Rattle.std.proofs.Common.{None, is_some, refl, ◌∙◌, ap, ◌<◌, ◌≤◌, nat_le, false, inl, inr, filter, All, sym, subst}
+use Rattle.std.proofs.Common.{None, is_some, refl, ◌∙◌, ap, ◌<◌, ◌≤◌, false, sym, subst}
 use Rattle.std.proofs.Common.{arith, replicate, slice_index_or, option_map}
 use Rattle.std.specs.List.{list_any, list_all, range_with_len}
 use Rattle.std.proofs.Math.Path.{fun_ext}
@@ -11,7 +11,7 @@ use Rattle.law_model.specs.Common.{said_before, said, is_line, is_line_up, last_
 use Rattle.law_model.specs.Common.{group_of, status, return_packet, return_cell, cells_before, Stream, width, place_of}
 use Rattle.law_model.specs.Common.{stream_before, payload_of, active_at, payload_on, container_of, was_member}
 use Rattle.law_model.specs.Common.{is_silent_line, is_inferred, are_inferred, is_whole_row, rows_of, scenario_by}
-use Rattle.law_model.specs.Common.{AreApart, IsSound, greatest, greatest_slip, scenario_of, forward_packet, oks_in}
+use Rattle.law_model.specs.Common.{IsSound, greatest, greatest_slip, scenario_of, forward_packet, oks_in}
 use Rattle.law_model.specs.Common.{told_by, untold, telling_at, mst_by, telling, sent_packet, session_cells, leader}
 use Rattle.law_model.specs.Common.{packet_if, packets_of, Leg, read_packets, return_at, Counts, packets, IsLine}
 use Rattle.law_model.specs.Common.{deliver, longest_frame, most_packets}
@@ -19,8 +19,6 @@ use Rattle.law_session.proofs.ClientStreamAndReplayLaws.{SameTables, width-same,
 use Rattle.law_pair.specs.Common.{telling_of, IsWay, IsPair, is_unheard, way_of, way_telling, said_of, way_tells}
 use Rattle.law_pair.specs.Common.{way_config, PairCounts, pair_bound, with_lag, IsPairPlan, pair_plan, pair_drained}
 use Rattle.law_pair.specs.Common.{IsPairWalked}
-use Rattle.std.proofs.lemmas.Bool.{cases_Bool, cases_lt, le-leb, lt-ltb}
-use Rattle.std.proofs.lemmas.List.Elements.{All-nil, All-cons}
 use Rattle.law_model.specs.declared.script_types.Script.{Script}
 use Rattle.law_model.specs.session.Scenario.{packets_in}
 use Rattle.std.proofs.lemmas.List.FromFn.{get_or-map-range_with_len}
@@ -40,6 +38,18 @@ use Rattle.law_progress.specs.Progress.{IsPlan}
 use Rattle.law_progress.proofs.LinePathInNumbersLaws.{can_run-plan}
 use Rattle.law_terminal.proofs.ContainerPayloadLaws.{containers-size}
 use Rattle.law_pair.specs.declared.pair_events.Way.TheVariants.{There, Back}
+use Rattle.std.specs.Prelude.{filter, flat_map, fold, is_none}
+use Rattle.text_report.specs.ReportLines.{got_texts, refused_texts, total_text}
+use Rattle.law_model.specs.Common.{DueCommand, DueFrame, comes_at, lands_at, offers_of, orders_of, steps_in, offered}
+use Rattle.law_model.specs.Common.{frame_refusal, refusal}
+use Rattle.law_model.specs.declared.script_types.Item.{Item}
+use Rattle.law_model.specs.declared.script_types.ItemKind.{ItemKind}
+use Rattle.law_model.specs.declared.script_types.ItemKind.TheVariants.{Frame, Add, Remove}
+use Rattle.law_model.specs.declared.lcas_states.Command.TheVariants.{Add as add, Remove as remove}
+use Rattle.law_model.specs.declared.item_refusals.Refusal.{Refusal}
+use Rattle.law_model.specs.declared.item_refusals.Refusal.TheVariants.{Frame as frame_fault, Command as command_fault}
+use Rattle.law_walk.specs.Common.{Numbered, is_client, kind_refusal, refusal_at, refused_by, source_met}
+use Rattle.law_pair.proofs.RunsOfPacketsLaws.{runs-apart, runs-end, runs-named}
 use Rattle.law_pair.proofs.ReachedPairAndStallLaws.{pair-walks}
 use Rattle.law_pair.proofs.PairMeasureAndDrainLaws.{pair-ends, pair-drains}
 use Rattle.law_row.proofs.LastWordAndReturnPacketLaws as returned
@@ -192,76 +202,33 @@ module _ (scenario : Scenario) (tells : List Told) where
       ∙ ap (λ octets. rows_of scenario cells t ++ record { whole = is_whole_row scenario cells t; octets = octets }
       ∷ []) (telling-payload cells t)
 
+  -- ---- items that are refused
+  telling-stream : (cells : List (Option Told)) (t : ℕ) → stream_before other cells t ≡ stream_before scenario cells t
+  telling-stream cells t = stream_before-same other cells scenario cells t (tables cells ((t - 8) / 16)) (λ u low. refl)
+
+  telling-source : (cells : List (Option Told)) (due : ℕ) (earlier : List DueCommand) →
+      source_met other cells due earlier ≡ source_met scenario cells due earlier
+  telling-source cells due earlier =
+      ap (asked_all (length scenario.windows) (map (λ (order : DueCommand). order.command)
+      (filter (lands_at (steps_in due)) earlier))) (telling-after cells (steps_in due))
+
+  pub telling-refusal : (cells : List (Option Told)) (due : ℕ) (earlier : List Item) (kind : ItemKind) →
+      kind_refusal other cells due earlier kind ≡ kind_refusal scenario cells due earlier kind
+  telling-refusal cells due earlier (Frame octets) =
+      ap (λ (s : Stream). option_map frame_fault (frame_refusal octets (fold offered s
+      (map (λ (offer : DueFrame). offer.frame) (filter (comes_at due) (offers_of earlier)))))) (telling-stream cells due)
+  telling-refusal cells due earlier (Add line) =
+      ap (λ (s : Source). option_map command_fault (refusal (length scenario.windows) (add line) s))
+      (telling-source cells due (orders_of earlier))
+  telling-refusal cells due earlier (Remove line) =
+      ap (λ (s : Source). option_map command_fault (refusal (length scenario.windows) (remove line) s))
+      (telling-source cells due (orders_of earlier))
+
 -- ---- The ways of a pair are sound legs, and which return packets of a way are lost.
--- ---- a window of one packet for each of a test
-abbrev windows_of : (ℕ → Bool) → ℕ → ℕ → List (ℕ × ℕ)
-windows_of test from count = map (λ k. (k, k + 1)) (filter test (range_with_len from count))
-
-windows-apart : (test : ℕ → Bool) (a n from : ℕ) → from ≤ a → AreApart from (windows_of test a n)
-unfolding AreApart
-windows-apart test a zero from low = tt
-windows-apart test a (suc n) from low =
-    elim (cases_Bool (test a)) [
-      | inl e ↦ rw e (low, omega arith, windows-apart test (a + 1) n (a + 1) (omega arith))
-      | inr e ↦ rw e (windows-apart test (a + 1) n from (omega (arith, low)))
-    ]
-
-abbrev EndsBy : ℕ → ℕ × ℕ → Type 0
-EndsBy most window = window.1 ≤ most
-
-windows-end : (test : ℕ → Bool) (most a n : ℕ) → a + n ≤ most → All (EndsBy most) (windows_of test a n)
-windows-end test most a zero low = All-nil (EndsBy most)
-windows-end test most a (suc n) low =
-    elim (cases_Bool (test a)) [
-      | inl e ↦ rw e (All-cons (EndsBy most) (a, a + 1) (windows_of test (a + 1) n) (omega (arith, low))
-          (windows-end test most (a + 1) n (omega (arith, low))))
-      | inr e ↦ rw e (windows-end test most (a + 1) n (omega (arith, low)))
-    ]
-
--- ---- which packets they name
-abbrev is_in : ℕ → ℕ × ℕ → Bool
-is_in k window = nat_le window.0 k && nat_lt k window.1
-
-before-none : (test : ℕ → Bool) (k a n : ℕ) → k < a → list_any (is_in k) (windows_of test a n) ≡ false
-before-none test k a zero low = refl
-before-none test k a (suc n) low =
-    let rest = before-none test k (a + 1) n (omega (arith, low)) in
-    elim (cases_Bool (test a)) [
-      | inl e ↦ let early : nat_le a k ≡ false = grind (arith, low) in rw (e, early) rest
-      | inr e ↦ rw e rest
-    ]
-
-named-at : (test : ℕ → Bool) (k a n : ℕ) → a ≤ k → k < a + n → list_any (is_in k) (windows_of test a n) ≡ test k
-named-at test k a zero low high = absurd (omega (arith, low, high))
-named-at test k a (suc n) low high =
-    elim (cases_lt a k) [
-      | inl less ↦
-          let rest = named-at test k (a + 1) n (omega (arith, less)) (omega (arith, high)) in
-          elim (cases_Bool (test a)) [
-            | inl e ↦
-                let first : nat_le a k ≡ true = le-leb a k low in
-                let past : nat_lt k (a + 1) ≡ false = grind (arith, less) in
-                rw (e, first, past) rest
-            | inr e ↦ rw e rest
-          ]
-      | inr more ↦
-          let same : k ≡ a = omega (arith, low, more) in
-          let none = before-none test k (a + 1) n (omega (arith, more)) in
-          ap (λ c. list_any (is_in c) (windows_of test a (suc n))) same
-          ∙ elim (cases_Bool (test a)) [
-            | inl e ↦
-                let first : nat_le a a ≡ true = le-leb a a (omega arith) in
-                let past : nat_lt a (a + 1) ≡ true = lt-ltb a (a + 1) (omega arith) in
-                rw (e, first, past) refl
-            | inr e ↦ rw e (subst (λ c. list_any (is_in c) (windows_of test (a + 1) n) ≡ false) same none)
-          ]
-          ∙ ap test (sym same)
-    ]
-
 pub way-lost : (script other : Script) (k : ℕ) → k < packets_in script.config.ticks →
     is_lost (scenario_by (way_of script other)) k ≡ is_unheard other k
 way-lost script other k low =
-    named-at (is_unheard other) k 0 (packets_in script.config.ticks) (omega arith) (omega (arith, low))
+    runs-named (is_unheard other) k 0 (packets_in script.config.ticks) (omega arith) (omega (arith, low))
 
 -- ---- a way is sound
 pub way-sound : (script other : Script) → IsWay script → IsSound (way_of script other)
@@ -280,8 +247,8 @@ way-sound script other is =
         windows_each = network.windows_each;
         windows = network.windows;
         lost = record {
-          apart = windows-apart (is_unheard other) 0 (packets_in script.config.ticks) 0 (omega arith);
-          ends = windows-end (is_unheard other) most_packets 0 (packets_in script.config.ticks) (omega (arith, ticks));
+          apart = runs-apart (is_unheard other) 0 (packets_in script.config.ticks) 0 (omega arith);
+          ends = runs-end (is_unheard other) most_packets 0 (packets_in script.config.ticks) (omega (arith, ticks));
         };
         ring = network.ring;
         lag = (omega (arith, some), omega (arith, near));
@@ -573,3 +540,40 @@ pub delivered-same : (script other : Script) (tells : List Told) (rows : ℕ) �
 delivered-same script other tells rows =
     delivered-silent script other tells rows
     ∙ sym (delivered-silent script other (way_tells script other) rows)
+
+-- ---- what is reported of a way
+-- by what is delivered and which items are refused
+abbrev report_by : List (List ℕ) → (Numbered → Option Refusal) → ℕ → ℕ → List Numbered → List ℕ
+report_by frames why ticks rows items =
+    let refused = flat_map (λ (item : Numbered). refused_by item.number (why item)) items in
+    got_texts frames ++ refused_texts refused ++ total_text (record {
+      ticks = ticks;
+      taken = rows;
+      frames = length (filter (λ item. is_client item.item.kind && is_none (why item)) items);
+      commands = length (filter (λ item. not (is_client item.item.kind) && is_none (why item)) items);
+      refused = length refused;
+      got = length frames;
+    })
+
+refusal-silent : (script other : Script) (tells : List Told) (item : Numbered) →
+    refusal_at (way_telling script other tells) item ≡ refusal_at (way_telling script other []) item
+refusal-silent script other tells item =
+    let silent : Scenario = scenario_by (way_telling script other []) in
+    let telling : Scenario = scenario_by (way_telling script other tells) in
+    ap (λ cells. kind_refusal telling cells item.item.due (take item.number script.items) item.item.kind)
+    (telling-cells silent tells (packets_in script.config.ticks))
+    ∙ telling-refusal silent tells (session_cells silent) item.item.due (take item.number script.items) item.item.kind
+
+refusal-same : (script other : Script) (tells : List Told) (item : Numbered) →
+    refusal_at (way_telling script other tells) item ≡ refusal_at (way_of script other) item
+refusal-same script other tells item =
+    refusal-silent script other tells item ∙ sym (refusal-silent script other (way_tells script other) item)
+
+pub report-same : (script other : Script) (tells : List Told) (ticks rows : ℕ) (items : List Numbered) →
+    report_among (way_telling script other tells) ticks rows items
+    ≡ report_among (way_of script other) ticks rows items
+report-same script other tells ticks rows items =
+    let leg : Leg = way_telling script other tells in
+    ap (λ frames. report_by frames (refusal_at leg) ticks rows items) (delivered-same script other tells rows)
+    ∙ ap (λ why. report_by (delivered_of (way_of script other) rows) why ticks rows items)
+    (fun_ext (refusal-same script other tells))

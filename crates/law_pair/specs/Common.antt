@@ -1,5 +1,7 @@
 -- The words that most definitions and proofs cite, passed on from one place. Declares nothing.
-pub use Rattle.law_pair.specs.Pair.{IsPair, IsWay, is_unheard, said_of, way_config, way_of, way_telling, way_tells}
+pub use Rattle.law_pair.specs.Pair.{IsPair, IsWay, is_unheard, run_then, said_of, unheard, way_config, way_of}
+pub use Rattle.law_pair.specs.Pair.{way_telling, way_tells}
+unfoldable pub use Rattle.law_pair.specs.Pair.{runs_of}
 pub use Rattle.law_pair.specs.PairCounts.{PairCounts, PairPlan, PairStep, counts_on, done_at, first_way, full_at}
 pub use Rattle.law_pair.specs.PairCounts.{held_at, is_over, is_unsaid, land_first, land_item, landed, missing_at}
 pub use Rattle.law_pair.specs.PairCounts.{on_way, or_else, pair_begin, pair_bound, pair_round, pair_step, plan_on}

@@ -1,7 +1,8 @@
 -- A pair of sessions: two groups, one each way, that tick together. What the sink of a way has to say of it goes in the
 -- control packets of the other way, and is lost where no line of that way has a readable packet. So each way is a
 -- session by itself: what it needs of the other way are the windows of that way's lines, and what is said there.
-use Rattle.std.specs.Prelude.{◌≡◌, ℕ, ◌+◌, ◌*◌, ◌≤◌, not, Bool, List, [], ◌++◌, map, filter, replicate}
+use Rattle.std.specs.Prelude.{◌≡◌, ℕ, suc, ◌+◌, ◌*◌, ◌≤◌, ◌==◌, not, Bool, if◌then◌else◌, List, [], ◌∷◌, ◌++◌, map}
+use Rattle.std.specs.Prelude.{filter, replicate}
 use Rattle.std.specs.List.{range_with_len}
 use Rattle.law_model.specs.Common.{Leg, is_heard, scenario_by, scenario_of, Told, return_packet, session_cells, untold}
 use Rattle.law_model.specs.Common.{IsValid}
@@ -29,9 +30,19 @@ pub record IsPair (there back : Script) : Type 0 where
 abbrev pub is_unheard : Script → ℕ → Bool
 is_unheard other k = not (is_heard (scenario_of other) (k + other.config.lag))
 
--- one window for each of some first return packets that is lost
+-- a packet in front of runs of later ones. A run has its first packet, and the one behind its last
+abbrev pub run_then : ℕ → List (ℕ × ℕ) → List (ℕ × ℕ)
+run_then k [] = (k, suc k) ∷ []
+run_then k (run ∷ runs) = if run.0 == suc k then (k, run.1) ∷ runs else (k, suc k) ∷ run ∷ runs
+
+-- the longest runs of packets in rising order
+unfoldable pub runs_of : List ℕ → List (ℕ × ℕ)
+runs_of [] = []
+runs_of (k ∷ ks) = run_then k (runs_of ks)
+
+-- those of some first return packets that are lost
 abbrev pub unheard : Script → ℕ → List (ℕ × ℕ)
-unheard other packets = map (λ k. (k, k + 1)) (filter (is_unheard other) (range_with_len 0 packets))
+unheard other packets = runs_of (filter (is_unheard other) (range_with_len 0 packets))
 
 -- a return packet needs the lag twice: until it is in a packet of the other way, and until that has come
 abbrev pub way_config : Script → Script → Config

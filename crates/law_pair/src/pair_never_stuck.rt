@@ -60,8 +60,8 @@ pub fn pair_law()
 
 /// The walk of a pair of scripts, whatever events were tried in whatever order: each way walks as a session
 /// with twice the lag; after a drain all its rows are taken, and its report is one and the same; and what it
-/// delivers by its rows doesn't depend on what its packets tell. So what is proved of the walks of a leg
-/// holds for each way.
+/// delivers by its rows and what its report tells doesn't depend on what its packets tell. So what is proved
+/// of the walks of a leg holds for each way.
 pub fn walk_law()
     ensures plan { (there back : Script) → IsPair there back → IsPairPlan (pair_plan there back) }
     ensures there { (there back : Script) (s : PairCounts) → IsPair there back →
@@ -83,4 +83,6 @@ pub fn walk_law()
     ensures delivered { (script other : Script) (tells : List Told) (rows : ℕ) →
         delivered_of (way_telling script other tells) rows
         ≡ delivered_of (way_of script other) rows }
+    ensures told { (script other : Script) (tells : List Told) →
+        final_report (way_telling script other tells) ≡ final_report (way_of script other) }
 {}

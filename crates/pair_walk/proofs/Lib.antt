@@ -1,2 +1,3 @@
 pub mod PairReportRowsLaws
 pub mod PairScriptReaderLaws
+pub mod OneWayScriptLaws

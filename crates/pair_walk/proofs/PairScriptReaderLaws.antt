@@ -10,18 +10,16 @@ use Rattle.text_lines.specs.Fields.{where_true}
 use Rattle.text_lines.specs.Language.{said_by, said_from}
 use Rattle.text_lines.specs.FirstFault.{IsFirstFault, AreSound}
 use Rattle.text_lines.proofs.LineLanguageAndTableLaws.{first_fault, all_said}
-use Rattle.law_model.specs.declared.script_types.Config.{Config}
 use Rattle.law_model.specs.declared.script_types.Script.{Script}
 use Rattle.text_scripts.specs.declared.script_read.script_fault.ScriptFault.{ScriptFault}
 use Rattle.text_scripts.specs.script_read.Script.{config_fault, missing_line, script_in}
-use Rattle.text_scripts.proofs.ScriptLineAndFirstFaultLaws.{no_line}
 use Rattle.pair_walk.specs.declared.pair_script.script_pair.PairFault.{PairFault}
 use Rattle.pair_walk.specs.declared.pair_script.script_pair.ScriptPair.{ScriptPair}
 use Rattle.pair_walk.specs.pair_script.PairTextLines.{Halves, HalfFault, of_script, no_division, nothing_said}
 use Rattle.pair_walk.specs.pair_script.PairTextLines.{pair_lines, half_fault, half_after, divides, divided}
 use Rattle.pair_walk.specs.pair_script.PairTextLines.{half_missing}
-use Rattle.pair_walk.specs.pair_script.PairOfText.{fault_at, fit_fault, limits_fault, pair_in, pair_unless}
-use Rattle.pair_walk.specs.pair_script.PairOfText.{pair_of_halves, pair_of}
+use Rattle.pair_walk.specs.pair_script.PairOfText.{alone_fault, fault_at, least_of, limits_fault, pair_in, pair_unless}
+use Rattle.pair_walk.specs.pair_script.PairOfText.{pair_of_halves, pair_of, unlike_fault}
 use Rattle.text_lines.specs.WordsOfLine.{words}
 use Rattle.text_lines.proofs.LineLanguageAndTableLaws.{line_faulty, line_sound, end_missing, end_sound}
 use Rattle.text_scripts.specs.declared.script_read.script_draft.Draft.{Draft}
@@ -43,6 +41,8 @@ use Rattle.pair_walk.specs.pair_script.Inputs.{pair_told, IsPairRefused, ReadsPa
 use Rattle.std.proofs.lemmas.Bool.{not-false, or_parts, cases_Bool}
 use Rattle.text_lines.proofs.TextLineAndWordLaws.{or_none, where_none, map_none}
 use Rattle.law_pair.specs.Common.{IsPair}
+use Rattle.law_pair.specs.declared.pair_events.Way.{Way}
+use Rattle.law_pair.specs.declared.pair_events.Way.TheVariants.{There, Back}
 use Rattle.text_scripts.proofs.ScriptLineAndFirstFaultLaws.{split}
 use Rattle.text_lines.specs.Cut.{Lacks}
 use Rattle.text_lines.proofs.TextLineAndWordLaws.{lines_last}
@@ -64,10 +64,12 @@ is_line (Some (fault.Script (script.Spread slow fast slip ring))) = false
 is_line (Some (fault.Script (script.Lag lag least slow slip))) = false
 is_line (Some (fault.Script script.Memory)) = false
 is_line (Some (fault.Undivided n)) = true
-is_line (Some fault.Lost) = false
-is_line (Some fault.Events) = false
-is_line (Some (fault.Lag there back)) = false
+is_line (Some (fault.Limit way wrong)) = false
+is_line (Some (fault.Lost way)) = false
+is_line (Some (fault.Events way)) = false
+is_line (Some (fault.Lag there back least)) = false
 is_line (Some (fault.Ticks there back)) = false
+is_line (Some (fault.Runs runs)) = false
 
 neither : (f later : Option PairFault) → is_line f ≡ false → is_line later ≡ false →
     is_line (option_or f later) ≡ false
@@ -79,30 +81,32 @@ unfolding is_line
 where_line true f none = none
 where_line false f none = refl
 
-script_line : (c : Config) (found : Option ScriptFault) → config_fault c ≡ found →
-    is_line (option_map fault.Script found) ≡ false
+limit_line : (way : Way) (found : Option ScriptFault) → is_line (option_map (fault.Limit way) found) ≡ false
 unfolding is_line
-script_line c None is = refl
-script_line c (Some (script.Line n wrong)) is = absurd (no_line c n wrong is)
-script_line c (Some (script.Slip line window slip)) is = refl
-script_line c (Some (script.Spread slow fast slip ring)) is = refl
-script_line c (Some (script.Lag lag least slow slip)) is = refl
-script_line c (Some script.Memory) is = refl
+limit_line way None = refl
+limit_line way (Some wrong) = refl
 
-fit_line : (there back : Script) → is_line (fit_fault there back) ≡ false
+alone_line : (there back : Script) → is_line (alone_fault there back) ≡ false
 unfolding is_line
-fit_line there back =
-    neither _ _ (where_line (nat_lt 0 (length there.config.lost) || nat_lt 0 (length back.config.lost)) fault.Lost refl)
-    (neither _ _ (where_line (nat_lt 0 (length there.events) || nat_lt 0 (length back.events)) fault.Events refl)
-    (neither _ _ (where_line (not (there.config.lag == back.config.lag) || nat_lt 256 there.config.lag)
-    (fault.Lag there.config.lag back.config.lag) refl)
+alone_line there back =
+    neither _ _ (where_line (nat_lt 0 (length there.config.lost)) (fault.Lost There) refl)
+    (neither _ _ (where_line (nat_lt 0 (length back.config.lost)) (fault.Lost Back) refl)
+    (neither _ _ (where_line (nat_lt 0 (length there.events)) (fault.Events There) refl)
+    (where_line (nat_lt 0 (length back.events)) (fault.Events Back) refl)))
+
+unlike_line : (there back : Script) → is_line (unlike_fault there back) ≡ false
+unfolding is_line
+unlike_line there back =
+    neither _ _ (where_line (not (there.config.lag == back.config.lag) || nat_lt 256 there.config.lag)
+    (fault.Lag there.config.lag back.config.lag (least_of there back)) refl)
     (where_line (not (there.config.ticks == back.config.ticks)) (fault.Ticks there.config.ticks back.config.ticks)
-    refl)))
+    refl)
 
 limits_line : (pair : ScriptPair) → is_line (limits_fault pair) ≡ false
 limits_line pair =
-    neither _ _ (script_line pair.there.config (config_fault pair.there.config) refl)
-    (neither _ _ (script_line pair.back.config (config_fault pair.back.config) refl) (fit_line pair.there pair.back))
+    neither _ _ (limit_line There (config_fault pair.there.config))
+    (neither _ _ (limit_line Back (config_fault pair.back.config))
+    (neither _ _ (alone_line pair.there pair.back) (unlike_line pair.there pair.back)))
 
 -- ---- what is told of a line
 abbrev refused : PairFault → Result ScriptPair PairFault
@@ -169,9 +173,9 @@ pub divide_fault : (h : Halves) (ws : List (List ℕ)) → true ≡ divides h ws
 divide_fault h ws splits =
     ap (λ (b : Bool). option_map of_script (if b then missing_line h.now else words_fault h.now ws)) splits
 
-pub divide_after : (h : Halves) (ws : List (List ℕ)) → true ≡ divides h ws → divided h.now ≡ half_after h ws
-divide_after h ws splits =
-    ap (λ (b : Bool). if b then divided h.now else half h.there (after h.now (words_said ws))) splits
+pub divide_after : (n : ℕ) (h : Halves) (ws : List (List ℕ)) → true ≡ divides h ws → divided h.now ≡ half_after n h ws
+divide_after n h ws splits =
+    ap (λ (b : Bool). if b then divided h.now else half h.there (after n h.now (words_said ws))) splits
 
 -- any other one
 pub plain_fault : (h : Halves) (ws : List (List ℕ)) → false ≡ divides h ws →
@@ -179,10 +183,10 @@ pub plain_fault : (h : Halves) (ws : List (List ℕ)) → false ≡ divides h ws
 plain_fault h ws stays =
     ap (λ (b : Bool). option_map of_script (if b then missing_line h.now else words_fault h.now ws)) stays
 
-pub plain_after : (h : Halves) (ws : List (List ℕ)) → false ≡ divides h ws →
-    half h.there (after h.now (words_said ws)) ≡ half_after h ws
-plain_after h ws stays =
-    ap (λ (b : Bool). if b then divided h.now else half h.there (after h.now (words_said ws))) stays
+pub plain_after : (n : ℕ) (h : Halves) (ws : List (List ℕ)) → false ≡ divides h ws →
+    half h.there (after n h.now (words_said ws)) ≡ half_after n h ws
+plain_after n h ws stays =
+    ap (λ (b : Bool). if b then divided h.now else half h.there (after n h.now (words_said ws))) stays
 
 -- a fault of a script
 pub script_told : (n : ℕ) (found : Option LineFault) (f : ScriptFault) → IsToldAt n found f →
@@ -230,18 +234,18 @@ pub divided_at : (there : Script) (later : ScriptReader) (d : Draft) → there �
 divided_at there later d is at = ap₂ (λ (s : Script) (x : Draft). half (Some s) x) is at
 
 -- behind any other one
-pub plain_at : (h : Halves) (ws : List (List ℕ)) (next : ScriptReader) → false ≡ divides h ws →
-    drafted next ≡ after h.now (words_said ws) → half h.there (drafted next) ≡ half_after h ws
-plain_at h ws next stays is = ap (λ (d : Draft). half h.there d) is ∙ plain_after h ws stays
+pub plain_at : (n : ℕ) (h : Halves) (ws : List (List ℕ)) (next : ScriptReader) → false ≡ divides h ws →
+    drafted next ≡ after n h.now (words_said ws) → half h.there (drafted next) ≡ half_after n h ws
+plain_at n h ws next stays is = ap (λ (d : Draft). half h.there d) is ∙ plain_after n h ws stays
 
 -- one line on
 pub one_more : (reader next : PairReader) (l text more : List ℕ) → lines text ≡ l ∷ lines more →
     half_fault (halves_of reader) (words l) ≡ None →
-    IsPairAt next (line_at reader + 1) (half_after (halves_of reader) (words l)) →
+    IsPairAt next (line_at reader + 1) (half_after (line_at reader) (halves_of reader) (words l)) →
     said_after reader text ≡ said_after next more
 one_more reader next l text more first none at =
-    line_sound pair_lines (line_at reader) (halves_of reader) (half_after (halves_of reader) (words l)) (lines text) l
-    (lines more) first none refl
+    line_sound pair_lines (line_at reader) (halves_of reader)
+    (half_after (line_at reader) (halves_of reader) (words l)) (lines text) l (lines more) first none refl
     ∙ ap₂ (λ (n : ℕ) (h : Halves). said_from pair_lines n h (lines more)) (sym at.number) (sym at.halves)
 
 -- a line with a fault
@@ -319,12 +323,14 @@ memory_or (fault.Script (Spread a b c d)) = inr (λ e. cc)
 memory_or (fault.Script (Lag a b x y)) = inr (λ e. cc)
 memory_or (fault.Script Memory) = inl refl
 memory_or (fault.Undivided n) = inr (λ e. cc)
-memory_or fault.Lost = inr (λ e. cc)
-memory_or fault.Events = inr (λ e. cc)
-memory_or (fault.Lag a b) = inr (λ e. cc)
+memory_or (fault.Limit way wrong) = inr (λ e. cc)
+memory_or (fault.Lost way) = inr (λ e. cc)
+memory_or (fault.Events way) = inr (λ e. cc)
+memory_or (fault.Lag a b c) = inr (λ e. cc)
 memory_or (fault.Ticks a b) = inr (λ e. cc)
+memory_or (fault.Runs n) = inr (λ e. cc)
 
-pub stops_pair : (of : Result ScriptPair PairFault) (own : PairFault) (why : Stop) →
+pub stops_pair : {T : Type 0} (of : Result T PairFault) (own : PairFault) (why : Stop) →
     (own ≡ no_memory) ⊎ (of ≡ Err own) → (own ≢ no_memory → IsPairRefused own why) →
     (own ≡ no_memory → why ≡ stop.Memory) → StopsAt (pair_told of) why
 stops_pair of own why either for lack = elim (memory_or own) [
@@ -355,39 +361,37 @@ record Fits (there back : Script) : Type 0 where
   ticks : there.config.ticks ≡ back.config.ticks
 
 -- what is found of each of these
-abbrev lost_found : Script → Script → Option PairFault
-lost_found there back =
-    where_true (nat_lt 0 (length there.config.lost) || nat_lt 0 (length back.config.lost)) fault.Lost
-
-abbrev events_found : Script → Script → Option PairFault
-events_found there back =
-    where_true (nat_lt 0 (length there.events) || nat_lt 0 (length back.events)) fault.Events
+some_found : {X : Type 0} (xs : List X) (f : PairFault) (later : Option PairFault) →
+    option_or (where_true (nat_lt 0 (length xs)) f) later ≡ None → (xs ≡ []) × (later ≡ None)
+some_found xs f later none =
+    let found = or_none (where_true (nat_lt 0 (length xs)) f) later none in
+    (empty xs (where_none (nat_lt 0 (length xs)) f found.0), found.1)
 
 abbrev lag_found : Script → Script → Option PairFault
 lag_found there back =
     where_true (not (there.config.lag == back.config.lag) || nat_lt 256 there.config.lag)
-    (fault.Lag there.config.lag back.config.lag)
+    (fault.Lag there.config.lag back.config.lag (least_of there back))
 
 abbrev ticks_found : Script → Script → Option PairFault
 ticks_found there back =
     where_true (not (there.config.ticks == back.config.ticks)) (fault.Ticks there.config.ticks back.config.ticks)
 
-fitting : (there back : Script) → fit_fault there back ≡ None → Fits there back
-fitting there back none =
-    let lost = or_none (lost_found there back)
-    (option_or (events_found there back) (option_or (lag_found there back) (ticks_found there back))) none in
-    let events = or_none (events_found there back) (option_or (lag_found there back) (ticks_found there back)) lost.1 in
-    let lag = or_none (lag_found there back) (ticks_found there back) events.1 in
-    let no_lost = or_parts (nat_lt 0 (length there.config.lost)) (nat_lt 0 (length back.config.lost))
-    (where_none (nat_lt 0 (length there.config.lost) || nat_lt 0 (length back.config.lost)) fault.Lost lost.0) in
-    let no_events = or_parts (nat_lt 0 (length there.events)) (nat_lt 0 (length back.events))
-    (where_none (nat_lt 0 (length there.events) || nat_lt 0 (length back.events)) fault.Events events.0) in
+fitting : (there back : Script) → alone_fault there back ≡ None → unlike_fault there back ≡ None → Fits there back
+fitting there back alone unlike =
+    let events_back = where_true (nat_lt 0 (length back.events)) (fault.Events Back) in
+    let events = option_or (where_true (nat_lt 0 (length there.events)) (fault.Events There)) events_back in
+    let lost_back = option_or (where_true (nat_lt 0 (length back.config.lost)) (fault.Lost Back)) events in
+    let lost = some_found there.config.lost (fault.Lost There) lost_back alone in
+    let also_lost = some_found back.config.lost (fault.Lost Back) events lost.1 in
+    let told = some_found there.events (fault.Events There) events_back also_lost.1 in
+    let also_told = empty back.events (where_none (nat_lt 0 (length back.events)) (fault.Events Back) told.1) in
+    let lag = or_none (lag_found there back) (ticks_found there back) unlike in
     let lags = or_parts (not (there.config.lag == back.config.lag)) (nat_lt 256 there.config.lag)
     (where_none (not (there.config.lag == back.config.lag) || nat_lt 256 there.config.lag)
-    (fault.Lag there.config.lag back.config.lag) lag.0) in
+    (fault.Lag there.config.lag back.config.lag (least_of there back)) lag.0) in
     record {
-      lost = (empty there.config.lost no_lost.0, empty back.config.lost no_lost.1);
-      events = (empty there.events no_events.0, empty back.events no_events.1);
+      lost = (lost.0, also_lost.0);
+      events = (told.0, also_told);
       lag = (same there.config.lag back.config.lag lags.0, ltb-false 256 there.config.lag lags.1);
       ticks = same there.config.ticks back.config.ticks
           (where_none (not (there.config.ticks == back.config.ticks))
@@ -397,20 +401,23 @@ fitting there back none =
 pub pair_fits : (pair : ScriptPair) → IsUntested pair.there → IsUntested pair.back → limits_fault pair ≡ None →
     IsPair pair.there pair.back
 pair_fits pair there back none =
-    let first = or_none (option_map fault.Script (config_fault pair.there.config))
-    (option_or (option_map fault.Script (config_fault pair.back.config)) (fit_fault pair.there pair.back)) none in
-    let second = or_none (option_map fault.Script (config_fault pair.back.config)) (fit_fault pair.there pair.back)
+    let alone = alone_fault pair.there pair.back in
+    let unlike = unlike_fault pair.there pair.back in
+    let first = or_none (option_map (fault.Limit There) (config_fault pair.there.config))
+    (option_or (option_map (fault.Limit Back) (config_fault pair.back.config)) (option_or alone unlike)) none in
+    let second = or_none (option_map (fault.Limit Back) (config_fault pair.back.config)) (option_or alone unlike)
     first.1 in
-    let fits = fitting pair.there pair.back second.1 in
+    let third = or_none alone unlike second.1 in
+    let fits = fitting pair.there pair.back third.0 third.1 in
     record {
       there_way = record {
-        valid = there.valid (map_none fault.Script (config_fault pair.there.config) first.0);
+        valid = there.valid (map_none (fault.Limit There) (config_fault pair.there.config) first.0);
         near = fits.lag.1;
         lost = fits.lost.0;
         events = fits.events.0;
       };
       back_way = record {
-        valid = back.valid (map_none fault.Script (config_fault pair.back.config) second.0);
+        valid = back.valid (map_none (fault.Limit Back) (config_fault pair.back.config) second.0);
         near = omega (arith, fits.lag.0, fits.lag.1);
         lost = fits.lost.1;
         events = fits.events.1;
@@ -451,7 +458,7 @@ module _ (piece rest later : List ℕ) (within : length rest ≤ length piece) (
       (whole : (more : List ℕ) → lines (take (length rest - length later) rest ++ more) ≡ l ∷ lines more) where
     -- one line more was read
     pub line_more : (next : PairReader) → half_fault (halves_of reader) (words l) ≡ None →
-        IsPairAt next (line_at reader + 1) (half_after (halves_of reader) (words l)) → (more : List ℕ) →
+        IsPairAt next (line_at reader + 1) (half_after (line_at reader) (halves_of reader) (words l)) → (more : List ℕ) →
         said_after first (take (length piece - length later) piece ++ more) ≡ said_after next more
     line_more next none at more =
         ap (λ (t : List ℕ). said_after first (t ++ more)) front_more
@@ -557,27 +564,28 @@ record AreRead (h : Halves) : Type 0 where
   there : IfSome h.there IsUntested
   now : IsDraft h.now
 
-line_read : (h : Halves) (ws : List (List ℕ)) → AreRead h → half_fault h ws ≡ None → AreRead (half_after h ws)
-line_read h ws is none =
+line_read : (n : ℕ) (h : Halves) (ws : List (List ℕ)) → AreRead h → half_fault h ws ≡ None →
+    AreRead (half_after n h ws)
+line_read n h ws is none =
     elim (cases_Bool (divides h ws)) [
       | inl splits ↦
           let whole = map_none of_script (missing_line h.now) (divide_fault h ws (sym splits) ∙ none) in
-          subst AreRead (divide_after h ws (sym splits))
+          subst AreRead (divide_after n h ws (sym splits))
           (record { there = IsUntested-draft h.now is.now (whole_config h.now whole); now = IsDraft-first })
       | inr stays ↦
           let sound = map_none of_script (words_fault h.now ws) (plain_fault h ws (sym stays) ∙ none) in
-          subst AreRead (plain_after h ws (sym stays))
+          subst AreRead (plain_after n h ws (sym stays))
           (record {
             there = is.there;
-            now = IsDraft-after h.now (words_said ws) is.now (fits_words h.now ws is.now sound);
+            now = IsDraft-after n h.now (words_said ws) is.now (fits_words h.now ws is.now sound);
           })
     ]
 
-lines_read : (ls : List (List ℕ)) (h now : Halves) → AreRead h → AreSound pair_lines h ls now → AreRead now
+lines_read : (ls : List (List ℕ)) (n : ℕ) (h now : Halves) → AreRead h → AreSound pair_lines n h ls now → AreRead now
 unfolding AreSound
-lines_read [] h now is sound = subst AreRead sound is
-lines_read (l ∷ ls) h now is sound =
-    lines_read ls (half_after h (words l)) now (line_read h (words l) is sound.0) sound.1
+lines_read [] n h now is sound = subst AreRead sound is
+lines_read (l ∷ ls) n h now is sound =
+    lines_read ls (n + 1) (half_after n h (words l)) now (line_read n h (words l) is sound.0) sound.1
 
 -- ---- at the end
 -- both scripts are there
@@ -602,7 +610,7 @@ said_pair : (text : List ℕ) (pair : ScriptPair) (of : Result Halves (ℕ × Ha
     pair_of_halves of ≡ Ok pair → IsPair pair.there pair.back
 said_pair text pair (Ok h) is said =
     let are = (all_said pair_lines text h).0 is in
-    let read = lines_read (lines text) nothing_said h (record { there = tt; now = IsDraft-first }) are.sound in
+    let read = lines_read (lines text) 1 nothing_said h (record { there = tt; now = IsDraft-first }) are.sound in
     ends_paired h pair (limits_fault (pair_in h)) read are.whole refl said
 said_pair text pair (Err at) is said = absurd cc
 

@@ -3,6 +3,8 @@ use Rattle.std.specs.Prelude.{ℕ, List}
 use Rattle.law_model.specs.declared.script_types.Script.{Script}
 use Rattle.law_walk.specs.Common.{final_report}
 use Rattle.law_pair.specs.Common.{way_of}
+use Rattle.law_pair.specs.declared.pair_events.Way.{Way}
+use Rattle.law_pair.specs.declared.pair_events.Way.TheVariants.{There, Back}
 use Rattle.command_parts.specs.Common.{Answer, writes_both}
 use Rattle.pair_walk.specs.declared.pair_script.script_pair.ScriptPair.{ScriptPair}
 use Rattle.pair_walk.specs.pair_script.Inputs.{pair_answer}
@@ -11,6 +13,11 @@ use Rattle.pair_walk.specs.pair_script.Inputs.{pair_answer}
 -- the frames that are delivered, the lines of refused items, and the line of totals
 abbrev pub way_text : Script → Script → List ℕ
 way_text script other = final_report (way_of script other)
+
+-- of a way of two scripts
+abbrev pub text_on : Way → ScriptPair → List ℕ
+text_on There pair = way_text pair.there pair.back
+text_on Back pair = way_text pair.back pair.there
 
 -- of both ways
 abbrev pub pair_text : ScriptPair → Answer

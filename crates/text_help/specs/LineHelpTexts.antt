@@ -1,5 +1,5 @@
 -- What is said of how to write a line, in any language of lines. These texts are this project's own.
-use Rattle.std.specs.Prelude.{ℕ, nat_le, List, ◌++◌, codes, decimal, if◌then◌else◌}
+use Rattle.std.specs.Prelude.{ℕ, ◌==◌, nat_le, List, ◌++◌, codes, decimal, if◌then◌else◌}
 use Rattle.text_lines.specs.declared.text_faults.FieldFault.{FieldFault}
 use Rattle.text_lines.specs.declared.text_faults.FieldFault.TheVariants.{Number, Hex, Range, Size, Name}
 use Rattle.text_lines.specs.declared.text_faults.Names.{Names}
@@ -33,10 +33,18 @@ field_text (Size at least most) =
 field_text (Name at names) = word_text at (names_text names)
 
 -- ---- of a line
+-- so many words are taken, and so many follow
+abbrev pub takes_text : ℕ → List ℕ
+takes_text n = if n == 1 then codes " word" else codes " words"
+
+abbrev pub follow_text : ℕ → List ℕ
+follow_text n = if n == 1 then codes " follows" else codes " follow"
+
 -- the line that this word begins takes so many words behind it, and so many are there
 abbrev pub count_text : List ℕ → ℕ → ℕ → List ℕ
 count_text first takes follow =
-    first ++ codes " takes " ++ decimal takes ++ codes " words, and " ++ decimal follow ++ codes " follow"
+    first ++ codes " takes " ++ decimal takes ++ takes_text takes ++ codes ", and " ++ decimal follow
+    ++ follow_text follow
 
 -- the line that this word begins isn't where it has to be
 abbrev pub missing_text : List ℕ → List ℕ

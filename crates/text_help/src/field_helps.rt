@@ -2,7 +2,7 @@
 ghost use Rattle.std.specs.Prelude.{◌≡◌, ◌++◌, ◌≤◌, length, take, codes, decimal};
 ghost use Rattle.text_lines.specs.declared.text_faults.FieldFault.{FieldFault};
 ghost use Rattle.text_help.specs.LineHelpTexts.{word_text, bounds_text, field_text, count_text, missing_text};
-ghost use Rattle.text_help.specs.LineHelpTexts.{order_text};
+ghost use Rattle.text_help.specs.LineHelpTexts.{order_text, takes_text, follow_text};
 ghost use Rattle.text_help.specs.LineHelpTexts.{first_text, fault_text};
 
 use text_lines::{FieldFault, LineFault, Names};
@@ -95,6 +95,22 @@ pub fn field_help(fault: FieldFault, out: &mut [u8]) -> usize
     }
 }
 
+/// The word behind how many words are taken.
+fn takes_word(n: u64) -> &'static [u8]
+    ensures word { result.now ≡ takes_text n }
+    ensures short { length result.now ≤ 6 }
+{
+    if n == 1 { b" word" } else { b" words" }
+}
+
+/// The word behind how many follow.
+fn follow_word(n: u64) -> &'static [u8]
+    ensures word { result.now ≡ follow_text n }
+    ensures short { length result.now ≤ 8 }
+{
+    if n == 1 { b" follows" } else { b" follow" }
+}
+
 /// Writes how many words a line takes behind its first one, and how many follow it.
 pub fn count_help(first: &[u8], takes: u64, follow: u64, out: &mut [u8]) -> usize
     requires short { length first.now ≤ 32 }
@@ -105,8 +121,9 @@ pub fn count_help(first: &[u8], takes: u64, follow: u64, out: &mut [u8]) -> usiz
     let mut line = TextCursor::new(out);
     line.text(first);
     line.number(b" takes ", takes);
-    line.number(b" words, and ", follow);
-    line.text(b" follow");
+    line.text(takes_word(takes));
+    line.number(b", and ", follow);
+    line.text(follow_word(follow));
     line.end()
 }
 

@@ -32,17 +32,17 @@ pub line_faulty : {D K : Type 0} (language : Language D K) (n : ℕ) (d : D) (al
 unfolding said_from
 line_faulty {K = K} language n d all l ls fault first fails =
     ap (λ (x : List (List ℕ)). said_from language n d x) first
-    ∙ ap (λ (f : Option K). unless_fault n f (said_from language (n + 1) (language.after d (words l)) ls)) fails
+    ∙ ap (λ (f : Option K). unless_fault n f (said_from language (n + 1) (language.after n d (words l)) ls)) fails
 
 -- a line without a fault
 pub line_sound : {D K : Type 0} (language : Language D K) (n : ℕ) (d new : D) (all : List (List ℕ)) (l : List ℕ)
     (ls : List (List ℕ))
-    → all ≡ l ∷ ls → language.fault d (words l) ≡ None → new ≡ language.after d (words l)
+    → all ≡ l ∷ ls → language.fault d (words l) ≡ None → new ≡ language.after n d (words l)
     → said_from language n d all ≡ said_from language (n + 1) new ls
 unfolding said_from
 line_sound {D = D} {K = K} language n d new all l ls first none is =
     ap (λ (x : List (List ℕ)). said_from language n d x) first
-    ∙ ap (λ (f : Option K). unless_fault n f (said_from language (n + 1) (language.after d (words l)) ls)) none
+    ∙ ap (λ (f : Option K). unless_fault n f (said_from language (n + 1) (language.after n d (words l)) ls)) none
     ∙ ap (λ (d : D). said_from language (n + 1) d ls) (sym is)
 
 -- after the last line
@@ -72,20 +72,20 @@ same_line {K = K} n m k fault e =
 
 -- ---- lines without a fault are passed over
 pub passed : {D K : Type 0} (language : Language D K) (before rest : List (List ℕ)) (n : ℕ) (d now : D)
-    → AreSound language d before now
+    → AreSound language n d before now
     → said_from language n d (before ++ rest) ≡ said_from language (n + length before) now rest
 unfolding AreSound
 passed {D = D} language [] rest n d now sound =
     ap (λ (x : D). said_from language n x rest) sound
     ∙ ap (λ (k : ℕ). said_from language k now rest) (let e : n ≡ n + 0 = omega arith in e)
 passed language (l ∷ before) rest n d now sound =
-    line_sound language n d (language.after d (words l)) (l ∷ before ++ rest) l (before ++ rest) refl sound.0 refl
-    ∙ passed language before rest (n + 1) (language.after d (words l)) now sound.1
+    line_sound language n d (language.after n d (words l)) (l ∷ before ++ rest) l (before ++ rest) refl sound.0 refl
+    ∙ passed language before rest (n + 1) (language.after n d (words l)) now sound.1
     ∙ ap (λ (k : ℕ). said_from language k now rest)
     (let e : n + 1 + length before ≡ n + length (l ∷ before) = omega arith in e)
 
 passed_all : {D K : Type 0} (language : Language D K) (ls : List (List ℕ)) (n : ℕ) (d now : D)
-    → AreSound language d ls now
+    → AreSound language n d ls now
     → said_from language n d ls ≡ said_from language (n + length ls) now []
 passed_all language ls n d now sound =
     ap (λ (x : List (List ℕ)). said_from language n d x) (sym (append-nil ls)) ∙ passed language ls [] n d now sound
@@ -113,7 +113,7 @@ ends language n d m fault (Some k) is e =
 
 later_line : {D K : Type 0} (language : Language D K) (n : ℕ) (d : D) (l : List ℕ) (ls : List (List ℕ)) (m : ℕ)
     (fault : K)
-    → language.fault d (words l) ≡ None → IsFirstFault language (n + 1) (language.after d (words l)) ls m fault
+    → language.fault d (words l) ≡ None → IsFirstFault language (n + 1) (language.after n d (words l)) ls m fault
     → IsFirstFault language n d (l ∷ ls) m fault
 unfolding AreSound
 later_line language n d l ls m fault none (inl f) =
@@ -133,9 +133,9 @@ later_line language n d l ls m fault none (inr s) =
 this_line : {D K : Type 0} (language : Language D K) (n : ℕ) (d : D) (l : List ℕ) (ls : List (List ℕ)) (m : ℕ)
     (fault : K) (f : Option K)
     → language.fault d (words l) ≡ f
-    → (said_from language (n + 1) (language.after d (words l)) ls ≡ told m fault
-    → IsFirstFault language (n + 1) (language.after d (words l)) ls m fault)
-    → unless_fault n f (said_from language (n + 1) (language.after d (words l)) ls) ≡ told m fault
+    → (said_from language (n + 1) (language.after n d (words l)) ls ≡ told m fault
+    → IsFirstFault language (n + 1) (language.after n d (words l)) ls m fault)
+    → unless_fault n f (said_from language (n + 1) (language.after n d (words l)) ls) ≡ told m fault
     → IsFirstFault language n d (l ∷ ls) m fault
 unfolding AreSound
 this_line language n d l ls m fault None is later e = later_line language n d l ls m fault is (later e)
@@ -158,10 +158,10 @@ unfolding said_from
 first_from language [] n d m fault e = inr (ends language n d m fault (language.missing d) refl e)
 first_from language (l ∷ ls) n d m fault e =
     this_line language n d l ls m fault (language.fault d (words l)) refl
-    (first_from language ls (n + 1) (language.after d (words l)) m fault) e
+    (first_from language ls (n + 1) (language.after n d (words l)) m fault) e
 
 read_end : {D K : Type 0} (language : Language D K) (n : ℕ) (d now : D) (f : Option K) → language.missing d ≡ f
-    → unless_fault n f (said d) ≡ said now → AreWhole language d [] now
+    → unless_fault n f (said d) ≡ said now → AreWhole language n d [] now
 unfolding AreSound
 read_end {D = D} language n d now None is e =
     let same : d ≡ now = cc in
@@ -171,10 +171,10 @@ read_end language n d now (Some k) is e = absurd cc
 this_read : {D K : Type 0} (language : Language D K) (n : ℕ) (d now : D) (l : List ℕ) (ls : List (List ℕ))
     (f : Option K)
     → language.fault d (words l) ≡ f
-    → (said_from language (n + 1) (language.after d (words l)) ls ≡ said now
-    → AreWhole language (language.after d (words l)) ls now)
-    → unless_fault n f (said_from language (n + 1) (language.after d (words l)) ls) ≡ said now
-    → AreWhole language d (l ∷ ls) now
+    → (said_from language (n + 1) (language.after n d (words l)) ls ≡ said now
+    → AreWhole language (n + 1) (language.after n d (words l)) ls now)
+    → unless_fault n f (said_from language (n + 1) (language.after n d (words l)) ls) ≡ said now
+    → AreWhole language n d (l ∷ ls) now
 unfolding AreSound
 this_read language n d now l ls None is later e =
     let read = later e in record { sound = (is, read.sound); whole = read.whole }
@@ -182,12 +182,12 @@ this_read language n d now l ls (Some k) is later e = absurd cc
 
 all_read : {D K : Type 0} (language : Language D K) (ls : List (List ℕ)) (n : ℕ) (d now : D)
     → said_from language n d ls ≡ said now
-    → AreWhole language d ls now
+    → AreWhole language n d ls now
 unfolding said_from
 all_read language [] n d now e = read_end language n d now (language.missing d) refl e
 all_read language (l ∷ ls) n d now e =
     this_read language n d now l ls (language.fault d (words l)) refl
-    (all_read language ls (n + 1) (language.after d (words l)) now) e
+    (all_read language ls (n + 1) (language.after n d (words l)) now) e
 
 -- ---- the text
 -- the fault that a text is told to have is its first one
@@ -200,7 +200,7 @@ first_fault language text number fault = (
 
 -- what a text says is said by lines without a fault, and nothing is missing
 pub all_said : {D K : Type 0} (language : Language D K) (text : List ℕ) (now : D)
-    → (said_by language text ≡ Ok now) ↔ AreWhole language language.first (lines text) now
+    → (said_by language text ≡ Ok now) ↔ AreWhole language 1 language.first (lines text) now
 all_said language text now = (
   λ e. all_read language (lines text) 1 language.first now e,
   λ is. passed_all language (lines text) 1 language.first now is.sound
@@ -291,11 +291,11 @@ words_kept t Stands keeps s ws false is meets none =
     rw is (known_kept t Stands keeps s (drop 1 ws) (t.keyword (word_at 0 ws)) meets (rw is at none))
 
 lines_kept : {D K O : Type 0} (t : Table D K O) (Stands : ℕ → D → Type 0) → Keeps t Stands → (ls : List (List ℕ))
-    (s now : Told D K) → Meets t Stands s → AreSound (language_of t) s ls now → Meets t Stands now
+    (n : ℕ) (s now : Told D K) → Meets t Stands s → AreSound (language_of t) n s ls now → Meets t Stands now
 unfolding AreSound
-lines_kept t Stands keeps [] s now meets sound = subst (Meets t Stands) sound meets
-lines_kept t Stands keeps (l ∷ ls) s now meets sound =
-    lines_kept t Stands keeps ls (words_after t s (words l)) now
+lines_kept t Stands keeps [] n s now meets sound = subst (Meets t Stands) sound meets
+lines_kept t Stands keeps (l ∷ ls) n s now meets sound =
+    lines_kept t Stands keeps ls (n + 1) (words_after t s (words l)) now
     (words_kept t Stands keeps s (words l) (is_skipped (words l)) refl meets sound.0) sound.1
 
 -- all lines that have to be there are
@@ -315,7 +315,7 @@ made_of t Stands keeps form IsValid valid text a (Ok s) is made =
     let are = (all_said (language_of t) text s).0 is in
     subst IsValid same
     (valid (next_after t s.last) s.said (all_there t s are.whole)
-    (lines_kept t Stands keeps (lines text) (language_of t).first s keeps.first are.sound))
+    (lines_kept t Stands keeps (lines text) 1 (language_of t).first s keeps.first are.sound))
 
 -- so what is made of a text is valid
 pub said_valid : {D K O A : Type 0} (t : Table D K O) (Stands : ℕ → D → Type 0) → Keeps t Stands → (form : D → A)

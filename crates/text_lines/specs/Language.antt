@@ -9,8 +9,8 @@ pub record Language (D K : Type 0) : Type 0 where
   pub first : D
   -- what is wrong with a line after what those before it say
   pub fault : D → List (List ℕ) → Option K
-  -- what is said with that line
-  pub after : D → List (List ℕ) → D
+  -- what is said with that line, which has this number
+  pub after : ℕ → D → List (List ℕ) → D
   -- what is missing after the last line
   pub missing : D → Option K
 
@@ -24,7 +24,7 @@ unless_fault n (Some fault) said = Err (n, fault)
 unfoldable pub said_from : {D K : Type 0} → Language D K → ℕ → D → List (List ℕ) → Result D (ℕ × K)
 said_from language n d [] = unless_fault n (language.missing d) (Ok d)
 said_from language n d (l ∷ ls) =
-    unless_fault n (language.fault d (words l)) (said_from language (n + 1) (language.after d (words l)) ls)
+    unless_fault n (language.fault d (words l)) (said_from language (n + 1) (language.after n d (words l)) ls)
 
 -- what a text says; its lines are counted from 1
 abbrev pub said_by : {D K : Type 0} → Language D K → List ℕ → Result D (ℕ × K)

@@ -100,7 +100,7 @@ missing_fault t s = where_true (nat_lt (next_after t s.last) t.must) (missing_at
 
 abbrev pub language_of : {D K O : Type 0} → Table D K O → Language (Told D K) (LineFault K O)
 language_of t =
-    record { first = told t.first None; fault = words_fault t; after = words_after t; missing = missing_fault t }
+    record { first = told t.first None; fault = words_fault t; after = λ n. words_after t; missing = missing_fault t }
 
 -- what a text says, or the number of the first faulty line, counted from 1, and what is wrong with it
 abbrev pub said_alone : {D K E : Type 0} → Result (Told D K) E → Result D E

@@ -519,19 +519,19 @@ more_live k c (Some live) has = record {
   few = omega (arith, has.few);
 }
 
-earlier_line : (k : ℕ) (d : Draft) (live : Option Live) (p : EarlierPart) (ws : List (List ℕ)) → IsDraft d →
+earlier_line : (k n : ℕ) (d : Draft) (live : Option Live) (p : EarlierPart) (ws : List (List ℕ)) → IsDraft d →
     earlier_fault live d p ws ≡ None →
-    HasSaid (k + 1) (record { settings = after d (words_said ws); live = live })
-earlier_line k d (Some live) p ws is none = absurd cc
-earlier_line k d None p ws is none = record {
-  draft = IsDraft-after d (words_said ws) is (fits_words d ws is (map_none of_script (words_fault d ws) none));
+    HasSaid (k + 1) (record { settings = after n d (words_said ws); live = live })
+earlier_line k n d (Some live) p ws is none = absurd cc
+earlier_line k n d None p ws is none = record {
+  draft = IsDraft-after n d (words_said ws) is (fits_words d ws is (map_none of_script (words_fault d ws) none));
   live = tt;
 }
 
-by_first : (k : ℕ) (s : Said) (ws : List (List ℕ)) (f : FirstWord) → HasSaid k s → fault_by s ws f ≡ None →
-    HasSaid (k + 1) (said_with s ws (told_by ws f))
-by_first k s ws (first.Earlier p) has none = earlier_line k s.settings s.live p ws has.draft none
-by_first k s ws (first.Live w) has none =
+by_first : (k n : ℕ) (s : Said) (ws : List (List ℕ)) (f : FirstWord) → HasSaid k s → fault_by s ws f ≡ None →
+    HasSaid (k + 1) (said_with n s ws (told_by ws f))
+by_first k n s ws (first.Earlier p) has none = earlier_line k n s.settings s.live p ws has.draft none
+by_first k n s ws (first.Live w) has none =
     let parts = or_none (opening_fault s.live s.settings)
     (option_map of_live (rest_fault s.settings.config (now_live s) w (drop 1 ws))) none in
     let begun : HasLive k s.settings.config (now_live s) =
@@ -542,18 +542,18 @@ by_first k s ws (first.Live w) has none =
           (can_say k s.settings.config (now_live s) w (drop 1 ws) begun
           (map_none of_live (rest_fault s.settings.config (now_live s) w (drop 1 ws)) parts.1));
     }
-by_first k s ws first.Other has none = absurd cc
+by_first k n s ws first.Other has none = absurd cc
 
-by_skip : (k : ℕ) (s : Said) (ws : List (List ℕ)) (skipped : Bool) → is_skipped ws ≡ skipped → HasSaid k s →
-    line_fault s ws ≡ None → HasSaid (k + 1) (line_after s ws)
-by_skip k s ws true is has none =
+by_skip : (k n : ℕ) (s : Said) (ws : List (List ℕ)) (skipped : Bool) → is_skipped ws ≡ skipped → HasSaid k s →
+    line_fault s ws ≡ None → HasSaid (k + 1) (line_after n s ws)
+by_skip k n s ws true is has none =
     rw is (record { draft = has.draft; live = more_live k s.settings.config s.live has.live })
-by_skip k s ws false is has none =
-    rw is (by_first k s ws (first_of (word_at 0 ws)) has (rw is at none))
+by_skip k n s ws false is has none =
+    rw is (by_first k n s ws (first_of (word_at 0 ws)) has (rw is at none))
 
-pub one_line : (k : ℕ) (s : Said) (ws : List (List ℕ)) → HasSaid k s → line_fault s ws ≡ None →
-    HasSaid (k + 1) (line_after s ws)
-one_line k s ws has none = by_skip k s ws (is_skipped ws) refl has none
+pub one_line : (k n : ℕ) (s : Said) (ws : List (List ℕ)) → HasSaid k s → line_fault s ws ≡ None →
+    HasSaid (k + 1) (line_after n s ws)
+one_line k n s ws has none = by_skip k n s ws (is_skipped ws) refl has none
 
 -- ---- the lines one after another
 pub begins : HasSaid 0 nothing_said
@@ -574,11 +574,11 @@ at_end k n s now (Some wrong) is has e = absurd cc
 one_more : (k n : ℕ) (l : List ℕ) (ls : List (List ℕ)) (s now : Said) (found : Option LineWrong) →
     line_fault s (words l) ≡ found → HasSaid k s →
     ((t : Said) → HasSaid (k + 1) t → said_from live_lines (n + 1) t ls ≡ Ok now → HasWhole (k + 1 + length ls) now) →
-    unless_fault n found (said_from live_lines (n + 1) (line_after s (words l)) ls) ≡ Ok now →
+    unless_fault n found (said_from live_lines (n + 1) (line_after n s (words l)) ls) ≡ Ok now →
     HasWhole (k + length (l ∷ ls)) now
 one_more k n l ls s now None is has rest e =
     subst (λ (j : ℕ). HasWhole j now) (let same : k + 1 + length ls ≡ k + length (l ∷ ls) = omega arith in same)
-    (rest (line_after s (words l)) (one_line k s (words l) has is) e)
+    (rest (line_after n s (words l)) (one_line k n s (words l) has is) e)
 one_more k n l ls s now (Some wrong) is has rest e = absurd cc
 
 pub all_lines : (k n : ℕ) (ls : List (List ℕ)) (s now : Said) → HasSaid k s → said_from live_lines n s ls ≡ Ok now →

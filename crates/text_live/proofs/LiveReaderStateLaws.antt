@@ -224,10 +224,10 @@ rest_stops n s ws rest k f is none found = record {
   is = refl;
 }
 
-pub live_line_after : (s : Said) (ws rest : List (List ℕ)) (k : LiveKeyword) → IsLiveLine ws k rest →
-    line_after s ws ≡ with_live s (live_told k rest)
-live_line_after s ws rest k is =
-    ap (said_with s ws) (told_first ws (first.Live k) is.said is.first ∙ ap (λ r. happens (live_told k r)) is.others)
+pub live_line_after : (n : ℕ) (s : Said) (ws rest : List (List ℕ)) (k : LiveKeyword) → IsLiveLine ws k rest →
+    line_after n s ws ≡ with_live s (live_told k rest)
+live_line_after n s ws rest k is =
+    ap (said_with n s ws) (told_first ws (first.Live k) is.said is.first ∙ ap (λ r. happens (live_told k r)) is.others)
 
 pub reads_live : (now : LiveReader) (n : ℕ) (s : Said) (ws rest : List (List ℕ)) (k : LiveKeyword) (said : LiveLine) →
     IsLiveLine ws k rest → opening_fault s.live s.settings ≡ None →
@@ -236,7 +236,7 @@ pub reads_live : (now : LiveReader) (n : ℕ) (s : Said) (ws rest : List (List �
 reads_live now n s ws rest k said is begun none says at hands = record {
   fine = live_fault s ws rest k is ∙ ap (live_with s k rest) begun ∙ ap (option_map of_live) none;
   told = says ∙ sym (told_first ws (first.Live k) is.said is.first ∙ ap (λ r. happens (live_told k r)) is.others);
-  at = subst (IsAt now (n + 1)) (sym (live_line_after s ws rest k is)) at;
+  at = subst (IsAt now (n + 1)) (sym (live_line_after n s ws rest k is)) at;
   opens = λ live begun. hands;
 }
 

@@ -2,9 +2,8 @@
 use Rattle.std.proofs.Common.{◌≡◌, ◌∙◌, ℕ, ◌+◌, ◌≤◌, Bool, true, false, List, [], ◌∷◌, ◌++◌, length, ap, sym, subst}
 use Rattle.std.proofs.Common.{arith, refl, append_assoc, length-append, Option, None, Some, Result, Ok, Err, drop, ◌/◌}
 use Rattle.std.proofs.Common.{◌%◌, ◌<◌, ◌==◌, max, map, replicate, All, if◌then◌else◌}
-use Rattle.std.specs.Prelude.{fold, flat_map, option_map}
+use Rattle.std.specs.Prelude.{flat_map, option_map}
 use Rattle.std.proofs.lemmas.List.{append-nil, length-map}
-use Rattle.std.proofs.lemmas.List.Sums.{fold-append}
 use Rattle.std.proofs.lemmas.List.Concat.{flat_map-append}
 use Rattle.text_lines.specs.WordsOfLine.{words, word_at, is_skipped}
 use Rattle.text_lines.specs.Language.{said_from, unless_fault}
@@ -28,8 +27,8 @@ use Rattle.text_live.specs.LiveLines.{Told, happens, Said, LineWrong, of_live, l
 use Rattle.text_live.specs.LiveLines.{rest_fault, earlier_fault, fault_by, line_fault, first_of, live_told, told}
 use Rattle.text_live.specs.LiveLines.{told_by, said_with, line_after, nothing_said, live_lines}
 use Rattle.text_live.specs.LiveScript.{script_in, script_of_live}
-use Rattle.text_live.specs.Sayings.{AgreesWith, AreFine, leg_in, line_saying, said_in, said_with_line, saying_of}
-use Rattle.text_live.specs.Sayings.{sayings}
+use Rattle.text_live.specs.Sayings.{AgreesWith, AreFine, AreFineFrom, leg_in, line_saying, said_behind, said_in}
+use Rattle.text_live.specs.Sayings.{said_with_line, saying_of, sayings}
 use Rattle.text_live.proofs.LiveCourseAndItemLaws.{HasLive, HasLiveIf, HasSaid, begins, can_say, one_line, opening}
 use Rattle.text_live.proofs.LiveCourseAndItemLaws.{failures-by, slip-by, HasWhole, course_slip, all_lines}
 use Rattle.std.proofs.lemmas.Bool.Decides.{nat_tests}
@@ -75,18 +74,18 @@ told_one c said saying live all is can = (
 no_more : (c : Config) (said : List Saying) (live : Option Live) → Tells c said live → Tells c (said ++ []) live
 no_more c said live tells = subst (λ (l : List Saying). Tells c l live) (sym (append-nil said)) tells
 
-tells_earlier : (d : Draft) (live : Option Live) (p : EarlierPart) (ws : List (List ℕ)) (said : List Saying) →
+tells_earlier : (n : ℕ) (d : Draft) (live : Option Live) (p : EarlierPart) (ws : List (List ℕ)) (said : List Saying) →
     Tells d.config said live → earlier_fault live d p ws ≡ None →
-    Tells (after d (words_said ws)).config (said ++ []) live
-tells_earlier d (Some live) p ws said tells none = absurd cc
-tells_earlier d None p ws said tells none = append-nil said ∙ tells
+    Tells (after n d (words_said ws)).config (said ++ []) live
+tells_earlier n d (Some live) p ws said tells none = absurd cc
+tells_earlier n d None p ws said tells none = append-nil said ∙ tells
 
-tells_first : (k : ℕ) (s : Said) (ws : List (List ℕ)) (f : FirstWord) (said : List Saying) → HasSaid k s →
+tells_first : (k n : ℕ) (s : Said) (ws : List (List ℕ)) (f : FirstWord) (said : List Saying) → HasSaid k s →
     Tells s.settings.config said s.live → fault_by s ws f ≡ None →
-    (let now : Said = said_with s ws (told_by ws f) in
+    (let now : Said = said_with n s ws (told_by ws f) in
     Tells now.settings.config (said ++ saying_of (told_by ws f)) now.live)
-tells_first k s ws (first.Earlier p) said has tells none = tells_earlier s.settings s.live p ws said tells none
-tells_first k s ws (first.Live w) said has tells none =
+tells_first k n s ws (first.Earlier p) said has tells none = tells_earlier n s.settings s.live p ws said tells none
+tells_first k n s ws (first.Live w) said has tells none =
     let parts = or_none (opening_fault s.live s.settings)
     (option_map of_live (rest_fault s.settings.config (now_live s) w (drop 1 ws))) none in
     let begun : HasLive k s.settings.config (now_live s) =
@@ -95,14 +94,14 @@ tells_first k s ws (first.Live w) said has tells none =
     told_one s.settings.config said (live_told w (drop 1 ws)) (now_live s) were.0 were.1
     (can_say k s.settings.config (now_live s) w (drop 1 ws) begun
     (map_none of_live (rest_fault s.settings.config (now_live s) w (drop 1 ws)) parts.1))
-tells_first k s ws first.Other said has tells none = absurd cc
+tells_first k n s ws first.Other said has tells none = absurd cc
 
-tells_skip : (k : ℕ) (s : Said) (ws : List (List ℕ)) (skipped : Bool) (said : List Saying) → is_skipped ws ≡ skipped →
+tells_skip : (k n : ℕ) (s : Said) (ws : List (List ℕ)) (skipped : Bool) (said : List Saying) → is_skipped ws ≡ skipped →
     HasSaid k s → Tells s.settings.config said s.live → line_fault s ws ≡ None →
-    (let now : Said = line_after s ws in Tells now.settings.config (said ++ saying_of (told ws)) now.live)
-tells_skip k s ws true said is has tells none = rw is (no_more s.settings.config said s.live tells)
-tells_skip k s ws false said is has tells none =
-    rw is (tells_first k s ws (first_of (word_at 0 ws)) said has tells (rw is at none))
+    (let now : Said = line_after n s ws in Tells now.settings.config (said ++ saying_of (told ws)) now.live)
+tells_skip k n s ws true said is has tells none = rw is (no_more s.settings.config said s.live tells)
+tells_skip k n s ws false said is has tells none =
+    rw is (tells_first k n s ws (first_of (word_at 0 ws)) said has tells (rw is at none))
 
 few_of : (t : Told) → length (saying_of t) ≤ 1
 few_of (happens saying) = omega arith
@@ -114,26 +113,26 @@ pub record Speaks (k : ℕ) (s : Said) (said : List Saying) : Type 0 where
   pub tells : Tells s.settings.config said s.live
   pub few : length said ≤ k
 
-speaks_line : (k : ℕ) (s : Said) (line : List ℕ) (said : List Saying) → Speaks k s said →
-    line_fault s (words line) ≡ None → Speaks (k + 1) (said_with_line s line) (said ++ line_saying line)
-speaks_line k s line said speaks none = record {
-  has = one_line k s (words line) speaks.has none;
-  tells = tells_skip k s (words line) (is_skipped (words line)) said refl speaks.has speaks.tells none;
+speaks_line : (k n : ℕ) (s : Said) (line : List ℕ) (said : List Saying) → Speaks k s said →
+    line_fault s (words line) ≡ None → Speaks (k + 1) (said_with_line n s line) (said ++ line_saying line)
+speaks_line k n s line said speaks none = record {
+  has = one_line k n s (words line) speaks.has none;
+  tells = tells_skip k n s (words line) (is_skipped (words line)) said refl speaks.has speaks.tells none;
   few = omega (arith, speaks.few, length-append said (line_saying line), few_of (told (words line)));
 }
 
-speaks_all : (k : ℕ) (s : Said) (ls : List (List ℕ)) (said : List Saying) → Speaks k s said → AreFine s ls →
-    Speaks (k + length ls) (fold said_with_line s ls) (said ++ flat_map line_saying ls)
+speaks_all : (k n : ℕ) (s : Said) (ls : List (List ℕ)) (said : List Saying) → Speaks k s said → AreFineFrom n s ls →
+    Speaks (k + length ls) (said_behind n s ls) (said ++ flat_map line_saying ls)
 unfolding AreSound
-speaks_all k s [] said speaks fine =
+speaks_all k n s [] said speaks fine =
     subst (λ (l : List Saying). Speaks (k + 0) s l) (sym (append-nil said))
     (subst (λ (j : ℕ). Speaks j s said) (let same : k ≡ k + 0 = omega arith in same) speaks)
-speaks_all k s (line ∷ ls) said speaks fine =
-    let rest = speaks_all (k + 1) (said_with_line s line) ls (said ++ line_saying line)
-    (speaks_line k s line said speaks fine.0) fine.1 in
-    subst (λ (l : List Saying). Speaks (k + length (line ∷ ls)) (fold said_with_line s (line ∷ ls)) l)
+speaks_all k n s (line ∷ ls) said speaks fine =
+    let rest = speaks_all (k + 1) (n + 1) (said_with_line n s line) ls (said ++ line_saying line)
+    (speaks_line k n s line said speaks fine.0) fine.1 in
+    subst (λ (l : List Saying). Speaks (k + length (line ∷ ls)) (said_behind n s (line ∷ ls)) l)
     (append_assoc said (line_saying line) (flat_map line_saying ls))
-    (subst (λ (j : ℕ). Speaks j (fold said_with_line s (line ∷ ls))
+    (subst (λ (j : ℕ). Speaks j (said_behind n s (line ∷ ls))
     ((said ++ line_saying line) ++ flat_map line_saying ls))
     (let same : k + 1 + length ls ≡ k + length (line ∷ ls) = omega arith in same) rest)
 
@@ -141,7 +140,7 @@ pub speaks_in : (ls : List (List ℕ)) → AreFine nothing_said ls → Speaks (l
 speaks_in ls fine =
     subst (λ (j : ℕ). Speaks j (said_in ls) (sayings ls))
     (let same : 0 + length ls ≡ length ls = omega arith in same)
-    (speaks_all 0 nothing_said ls [] (record { has = begins; tells = refl; few = omega arith }) fine)
+    (speaks_all 0 1 nothing_said ls [] (record { has = begins; tells = refl; few = omega arith }) fine)
 
 agrees_by : (k : ℕ) (s : Said) (said : List Saying) (live : Option Live) → HasLiveIf k s.settings.config live →
     Tells s.settings.config said live → length said ≤ longest_input → AgreesWith s said live
@@ -185,40 +184,40 @@ pub record IsSettled (s now : Said) : Type 0 where
   pub live : Live
   pub begun : now.live ≡ Some live
 
-settled_first : (s : Said) (ws : List (List ℕ)) (f : FirstWord) (live : Live) → s.live ≡ Some live →
-    fault_by s ws f ≡ None → IsSettled s (said_with s ws (told_by ws f))
-settled_first s ws (first.Earlier p) live is none = absurd (not_earlier s.live live s.settings p ws is none)
-settled_first s ws (first.Live w) live is none =
+settled_first : (n : ℕ) (s : Said) (ws : List (List ℕ)) (f : FirstWord) (live : Live) → s.live ≡ Some live →
+    fault_by s ws f ≡ None → IsSettled s (said_with n s ws (told_by ws f))
+settled_first n s ws (first.Earlier p) live is none = absurd (not_earlier s.live live s.settings p ws is none)
+settled_first n s ws (first.Live w) live is none =
     record { settings = refl; live = live_after (now_live s) (live_told w (drop 1 ws)); begun = refl }
-settled_first s ws first.Other live is none = absurd cc
+settled_first n s ws first.Other live is none = absurd cc
 
-settled_skip : (s : Said) (ws : List (List ℕ)) (skipped : Bool) (live : Live) → is_skipped ws ≡ skipped →
-    s.live ≡ Some live → line_fault s ws ≡ None → IsSettled s (line_after s ws)
-settled_skip s ws true live skips is none = rw skips (record { settings = refl; live = live; begun = is })
-settled_skip s ws false live skips is none =
-    rw skips (settled_first s ws (first_of (word_at 0 ws)) live is (rw skips at none))
+settled_skip : (n : ℕ) (s : Said) (ws : List (List ℕ)) (skipped : Bool) (live : Live) → is_skipped ws ≡ skipped →
+    s.live ≡ Some live → line_fault s ws ≡ None → IsSettled s (line_after n s ws)
+settled_skip n s ws true live skips is none = rw skips (record { settings = refl; live = live; begun = is })
+settled_skip n s ws false live skips is none =
+    rw skips (settled_first n s ws (first_of (word_at 0 ws)) live is (rw skips at none))
 
-pub settled : (s : Said) (line : List ℕ) (live : Live) → s.live ≡ Some live → line_fault s (words line) ≡ None →
-    IsSettled s (said_with_line s line)
-settled s line live is none = settled_skip s (words line) (is_skipped (words line)) live refl is none
+pub settled : (n : ℕ) (s : Said) (line : List ℕ) (live : Live) → s.live ≡ Some live →
+    line_fault s (words line) ≡ None → IsSettled s (said_with_line n s line)
+settled n s line live is none = settled_skip n s (words line) (is_skipped (words line)) live refl is none
 
 -- ---- one line more
-fine_more : (s : Said) (ls : List (List ℕ)) (line : List ℕ) → AreFine s ls →
-    line_fault (fold said_with_line s ls) (words line) ≡ None → AreFine s (ls ++ line ∷ [])
+fine_more : (n : ℕ) (s : Said) (ls : List (List ℕ)) (line : List ℕ) → AreFineFrom n s ls →
+    line_fault (said_behind n s ls) (words line) ≡ None → AreFineFrom n s (ls ++ line ∷ [])
 unfolding AreSound
-fine_more s [] line fine none = (none, refl)
-fine_more s (l ∷ ls) line fine none = (fine.0, fine_more (said_with_line s l) ls line fine.1 none)
+fine_more n s [] line fine none = (none, refl)
+fine_more n s (l ∷ ls) line fine none = (fine.0, fine_more (n + 1) (said_with_line n s l) ls line fine.1 none)
 
 pub more_fine : (ls : List (List ℕ)) (line : List ℕ) → AreFine nothing_said ls →
     line_fault (said_in ls) (words line) ≡ None → AreFine nothing_said (ls ++ line ∷ [])
-more_fine ls line fine none = fine_more nothing_said ls line fine none
+more_fine ls line fine none = fine_more 1 nothing_said ls line fine none
 
-fine_less : (s : Said) (ls : List (List ℕ)) (line : List ℕ) → AreFine s (ls ++ line ∷ []) →
-    AreFine s ls × (line_fault (fold said_with_line s ls) (words line) ≡ None)
+fine_less : (n : ℕ) (s : Said) (ls : List (List ℕ)) (line : List ℕ) → AreFineFrom n s (ls ++ line ∷ []) →
+    AreFineFrom n s ls × (line_fault (said_behind n s ls) (words line) ≡ None)
 unfolding AreSound
-fine_less s [] line fine = (refl, fine.0)
-fine_less s (l ∷ ls) line fine =
-    let less = fine_less (said_with_line s l) ls line fine.1 in
+fine_less n s [] line fine = (refl, fine.0)
+fine_less n s (l ∷ ls) line fine =
+    let less = fine_less (n + 1) (said_with_line n s l) ls line fine.1 in
     ((fine.0, less.0), less.1)
 
 -- no line is faulty, nor one of the first of fine lines
@@ -226,20 +225,30 @@ pub nothing_fine : AreFine nothing_said []
 unfolding AreSound
 nothing_fine = refl
 
-fine_front : (s : Said) (ls more : List (List ℕ)) → AreFine s (ls ++ more) → AreFine s ls
+fine_front : (n : ℕ) (s : Said) (ls more : List (List ℕ)) → AreFineFrom n s (ls ++ more) → AreFineFrom n s ls
 unfolding AreSound
-fine_front s [] more fine = refl
-fine_front s (l ∷ ls) more fine = (fine.0, fine_front (said_with_line s l) ls more fine.1)
+fine_front n s [] more fine = refl
+fine_front n s (l ∷ ls) more fine = (fine.0, fine_front (n + 1) (said_with_line n s l) ls more fine.1)
 
 pub front_fine : (ls more : List (List ℕ)) → AreFine nothing_said (ls ++ more) → AreFine nothing_said ls
-front_fine ls more fine = fine_front nothing_said ls more fine
+front_fine ls more fine = fine_front 1 nothing_said ls more fine
 
 pub less_fine : (ls : List (List ℕ)) (line : List ℕ) → AreFine nothing_said (ls ++ line ∷ []) →
     AreFine nothing_said ls × (line_fault (said_in ls) (words line) ≡ None)
-less_fine ls line fine = fine_less nothing_said ls line fine
+less_fine ls line fine = fine_less 1 nothing_said ls line fine
 
-pub said_next : (ls : List (List ℕ)) (line : List ℕ) → said_in (ls ++ line ∷ []) ≡ said_with_line (said_in ls) line
-said_next ls line = fold-append said_with_line nothing_said ls (line ∷ [])
+said_more : (n : ℕ) (s : Said) (ls : List (List ℕ)) (line : List ℕ) →
+    said_behind n s (ls ++ line ∷ []) ≡ said_with_line (length ls + n) (said_behind n s ls) line
+said_more n s [] line =
+    ap (λ (k : ℕ). said_with_line k s line) (let same : n ≡ length {A = List ℕ} [] + n = omega arith in same)
+said_more n s (l ∷ ls) line =
+    said_more (n + 1) (said_with_line n s l) ls line
+    ∙ ap (λ (k : ℕ). said_with_line k (said_behind n s (l ∷ ls)) line)
+    (let same : length ls + (n + 1) ≡ length (l ∷ ls) + n = omega arith in same)
+
+pub said_next : (ls : List (List ℕ)) (line : List ℕ) →
+    said_in (ls ++ line ∷ []) ≡ said_with_line (length ls + 1) (said_in ls) line
+said_next ls line = said_more 1 nothing_said ls line
 
 pub sayings_next : (ls : List (List ℕ)) (line : List ℕ) → sayings (ls ++ line ∷ []) ≡ sayings ls ++ line_saying line
 sayings_next ls line =
@@ -256,12 +265,12 @@ goes_as n said now None e = e
 goes_as n said now (Some wrong) e = absurd cc
 
 folded : (n : ℕ) (s : Said) (ls : List (List ℕ)) (now : Said) → said_from live_lines n s ls ≡ Ok now →
-    fold said_with_line s ls ≡ now
+    said_behind n s ls ≡ now
 unfolding said_from
 folded n s [] now e = ends_as n s now (opening_fault s.live s.settings) e
 folded n s (l ∷ ls) now e =
-    folded (n + 1) (said_with_line s l) ls now
-    (goes_as n (said_from live_lines (n + 1) (said_with_line s l) ls) now (line_fault s (words l)) e)
+    folded (n + 1) (said_with_line n s l) ls now
+    (goes_as n (said_from live_lines (n + 1) (said_with_line n s l) ls) now (line_fault s (words l)) e)
 
 leg_by_said : (rounds : ℕ) (ls : List (List ℕ)) (script : Script) (said : Result Said (ℕ × LineWrong)) →
     said_from live_lines 1 nothing_said ls ≡ said → formed (script_in rounds) said ≡ Ok script →
@@ -276,14 +285,14 @@ pub leg_live : (rounds : ℕ) (ls : List (List ℕ)) (script : Script) → scrip
     leg_of script ≡ leg_in ls
 leg_live rounds ls script e = leg_by_said rounds ls script (said_from live_lines 1 nothing_said ls) refl e
 
-says_all : (n : ℕ) (s : Said) (ls : List (List ℕ)) → AreFine s ls →
-    (let now : Said = fold said_with_line s ls in opening_fault now.live now.settings ≡ None →
+says_all : (n : ℕ) (s : Said) (ls : List (List ℕ)) → AreFineFrom n s ls →
+    (let now : Said = said_behind n s ls in opening_fault now.live now.settings ≡ None →
     said_from live_lines n s ls ≡ Ok now)
 unfolding said_from AreSound
 says_all n s [] fine whole = ap (λ (found : Option LineWrong). unless_fault n found (Ok s)) whole
 says_all n s (l ∷ ls) fine whole =
-    ap (λ (found : Option LineWrong). unless_fault n found (said_from live_lines (n + 1) (said_with_line s l) ls)) fine.0
-    ∙ says_all (n + 1) (said_with_line s l) ls fine.1 whole
+    ap (λ (found : Option LineWrong). unless_fault n found (said_from live_lines (n + 1) (said_with_line n s l) ls)) fine.0
+    ∙ says_all (n + 1) (said_with_line n s l) ls fine.1 whole
 
 pub script_live : (rounds : ℕ) (ls : List (List ℕ)) → AreFine nothing_said ls →
     opening_fault (said_in ls).live (said_in ls).settings ≡ None →

@@ -195,18 +195,18 @@ told_by ws first.Other = nothing
 abbrev pub told : List (List ℕ) → Told
 told ws = if is_skipped ws then nothing else told_by ws (first_of (word_at 0 ws))
 
--- ---- what it adds to what the lines before it say
+-- ---- what it adds, by its number, to what the lines before it say
 -- the live lines with this one
 abbrev pub with_live : Said → Saying → Said
 with_live s saying = record s { live = Some (live_after (now_live s) saying) }
 
-abbrev pub said_with : Said → List (List ℕ) → Told → Said
-said_with s ws nothing = s
-said_with s ws setting = record s { settings = after s.settings (words_said ws) }
-said_with s ws (happens saying) = with_live s saying
+abbrev pub said_with : ℕ → Said → List (List ℕ) → Told → Said
+said_with n s ws nothing = s
+said_with n s ws setting = record s { settings = after n s.settings (words_said ws) }
+said_with n s ws (happens saying) = with_live s saying
 
-abbrev pub line_after : Said → List (List ℕ) → Said
-line_after s ws = said_with s ws (told ws)
+abbrev pub line_after : ℕ → Said → List (List ℕ) → Said
+line_after n s ws = said_with n s ws (told ws)
 
 -- ---- the lines one after another
 abbrev pub nothing_said : Said

@@ -179,8 +179,8 @@ HandsOut now s = s.live ≡ None → waiting_config now ≡ Some s.settings.conf
 pub record ReadsLine (now : LiveReader) (n : ℕ) (s : Said) (ws : List (List ℕ)) (said : LiveLine) : Type 0 where
   pub fine : line_fault s ws ≡ None
   pub told : told_line (frame_of now) said ≡ told ws
-  pub at : IsAt now (n + 1) (line_after s ws)
-  pub opens : (live : Live) → (line_after s ws).live ≡ Some live → HandsOut now s
+  pub at : IsAt now (n + 1) (line_after n s ws)
+  pub opens : (live : Live) → (line_after n s ws).live ≡ Some live → HandsOut now s
 
 -- a line was not read, for its fault or, before the first live line, for want of memory
 abbrev pub Stops : ℕ → Said → List (List ℕ) → LiveFault → Type 0

@@ -1,5 +1,5 @@
 -- What lines of a live text say that happens, one after another, and the leg of a session of which they say all.
-use Rattle.std.specs.Prelude.{◌≡◌, ℕ, List, [], ◌∷◌, fold, flat_map, Option, Some, None}
+use Rattle.std.specs.Prelude.{◌≡◌, ℕ, ◌+◌, List, [], ◌∷◌, flat_map, Option, Some, None}
 use Rattle.text_lines.specs.WordsOfLine.{words}
 use Rattle.text_lines.specs.FirstFault.{AreSound}
 use Rattle.law_model.specs.Common.{IsNetwork, Leg}
@@ -20,15 +20,23 @@ abbrev pub sayings : List (List ℕ) → List Saying
 sayings ls = flat_map line_saying ls
 
 -- ---- all that is said
-abbrev pub said_with_line : Said → List ℕ → Said
-said_with_line s line = line_after s (words line)
+abbrev pub said_with_line : ℕ → Said → List ℕ → Said
+said_with_line n s line = line_after n s (words line)
+
+-- from line n on, behind others
+abbrev pub said_behind : ℕ → Said → List (List ℕ) → Said
+said_behind n s [] = s
+said_behind n s (line ∷ ls) = said_behind (n + 1) (said_with_line n s line) ls
 
 abbrev pub said_in : List (List ℕ) → Said
-said_in ls = fold said_with_line nothing_said ls
+said_in ls = said_behind 1 nothing_said ls
 
 -- none of them is faulty behind those before it
+abbrev pub AreFineFrom : ℕ → Said → List (List ℕ) → Type 0
+AreFineFrom n s ls = AreSound live_lines n s ls (said_behind n s ls)
+
 abbrev pub AreFine : Said → List (List ℕ) → Type 0
-AreFine s ls = AreSound live_lines s ls (fold said_with_line s ls)
+AreFine s ls = AreFineFrom 1 s ls
 
 -- the leg
 abbrev pub leg_in : List (List ℕ) → Leg

@@ -1,5 +1,5 @@
 //! What the definitions of live texts mean, apart from how they compute.
-ghost use Rattle.std.specs.Prelude.{◌≡◌, ◌↔◌, ◌≤◌, ℕ, List, [], ◌∷◌, ◌++◌, length, None, Ok, Err};
+ghost use Rattle.std.specs.Prelude.{◌≡◌, ◌↔◌, ◌≤◌, ℕ, ◌+◌, List, [], ◌∷◌, ◌++◌, length, None, Ok, Err};
 ghost use Rattle.std.specs.Str.Lines.{lines};
 ghost use Rattle.text_lines.specs.Language.{said_by};
 ghost use Rattle.text_lines.specs.FirstFault.{IsFirstFault};
@@ -42,7 +42,7 @@ pub fn said_law()
     ensures less { (ls : List (List ℕ)) (line : List ℕ) → AreFine nothing_said (ls ++ line ∷ []) →
         AreFine nothing_said ls × (line_fault (said_in ls) (words line) ≡ None) }
     ensures next { (ls : List (List ℕ)) (line : List ℕ) →
-        said_in (ls ++ line ∷ []) ≡ said_with_line (said_in ls) line }
+        said_in (ls ++ line ∷ []) ≡ said_with_line (length ls + 1) (said_in ls) line }
     ensures sayings { (ls : List (List ℕ)) (line : List ℕ) →
         sayings (ls ++ line ∷ []) ≡ sayings ls ++ line_saying line }
     ensures leg { (rounds : ℕ) (ls : List (List ℕ)) (script : Script) →

@@ -49,7 +49,7 @@ fn next_script(alloc: Global, reader: ScriptReader, line: &[u8]) -> Result<Scrip
     ensures sound { IfOk result (λ _. words_fault (drafted reader) (words line.now) ≡ None) }
     ensures number { IfOk result (λ read. next_number read ≡ next_number reader + 1) }
     ensures draft { IfOk result (λ read. drafted read ≡
-        after (drafted reader) (words_said (words line.now))) }
+        after (next_number reader) (drafted reader) (words_said (words line.now))) }
     ensures fault { IfErr result (λ fault. (fault ≡ no_memory) ⊎ IsToldAt (next_number reader)
         (option_map of_script (words_fault (drafted reader) (words line.now))) fault) }
 {

@@ -1,8 +1,12 @@
 pub mod DrawnLoadLaws
+pub mod NetworkTextReadLaws
 pub mod RateTextLaws
 pub mod ScriptDraftGrowthLaws
 pub mod ScriptLineAndFirstFaultLaws
+pub mod ScriptReadBackLaws
+pub mod ScriptTextGrowthLaws
 pub mod StatementAndWordFaultLaws
 pub mod StreamItemLaws
 pub mod StreamWordLaws
+pub mod TextLineReadLaws
 pub mod WrittenStreamLaws

@@ -353,8 +353,8 @@ commands-stream items rate =
     ∙ ap (λ (l : List ℕ). command_dues (dues_of items) ++ l) (no_commands rate)
     ∙ append-nil (command_dues (dues_of items))
 
-stream_after : (d : Draft) (rate : Rate) → IsDraft d → Fits d (says.Stream rate) → IsDraft (after d (says.Stream rate))
-stream_after d rate is fits =
+stream_after : (n : ℕ) (d : Draft) (rate : Rate) → IsDraft d → Fits d (says.Stream rate) → IsDraft (after n d (says.Stream rate))
+stream_after n d rate is fits =
     let next = fits.2 in
     let late = last_later rate next.sound in
     let early = most-up _ d.frame_due rate.first is.frame_due next.order in
@@ -391,10 +391,10 @@ item_config d it kind has whole = config_later d.next 8 d.config whole (omega ar
 bare : (ticks : ℕ) (lists : List (List Window)) → All (λ windows. windows ≡ []) lists → All (AreFailures ticks) lists
 bare ticks lists none i d within = subst (AreFailures ticks) (sym (none i d within)) (no_windows ticks)
 
-config_after : (d : Draft) (said : Statement) → HasConfig d.next d.config → Fits d said →
-    HasConfig (after d said).next (after d said).config
-config_after d says.Nothing has fits = has
-config_after d (says.Container n) has fits = record {
+config_after : (n : ℕ) (d : Draft) (said : Statement) → HasConfig d.next d.config → Fits d said →
+    HasConfig (after n d said).next (after n d said).config
+config_after n d says.Nothing has fits = has
+config_after n d (says.Container size) has fits = record {
   few = has.few;
   lines = λ at. absurd (omega (arith, at));
   delay_each = λ at. absurd (omega (arith, at));
@@ -409,9 +409,9 @@ config_after d (says.Container n) has fits = record {
   lost = has.lost;
   few_lost = has.few_lost;
 }
-config_after d (says.Lines n) has fits = record {
+config_after n d (says.Lines count) has fits = record {
   few = fits.1.1;
-  lines = λ at. (fits.1.0, length-replicate n []);
+  lines = λ at. (fits.1.0, length-replicate count []);
   delay_each = λ at. absurd (omega (arith, at));
   delays = has.delays;
   ring = λ at. absurd (omega (arith, at));
@@ -419,12 +419,12 @@ config_after d (says.Lines n) has fits = record {
   ticks = λ at. absurd (omega (arith, at));
   size = has.size;
   options = has.options;
-  none = λ at. All-replicate (λ (windows : List Window). windows ≡ []) n [] refl;
-  windows = All-replicate (AreFailures d.config.ticks) n [] (no_windows d.config.ticks);
+  none = λ at. All-replicate (λ (windows : List Window). windows ≡ []) count [] refl;
+  windows = All-replicate (AreFailures d.config.ticks) count [] (no_windows d.config.ticks);
   lost = has.lost;
   few_lost = has.few_lost;
 }
-config_after d (says.Delays ns) has fits = record {
+config_after n d (says.Delays delays) has fits = record {
   few = has.few;
   lines = λ at. has.lines (omega (arith, fits.0));
   delay_each = λ at. fits.1;
@@ -439,7 +439,7 @@ config_after d (says.Delays ns) has fits = record {
   lost = has.lost;
   few_lost = has.few_lost;
 }
-config_after d (says.Ring n) has fits = record {
+config_after n d (says.Ring ring) has fits = record {
   few = has.few;
   lines = λ at. has.lines (omega (arith, fits.0));
   delay_each = λ at. has.delay_each (omega (arith, fits.0));
@@ -454,7 +454,7 @@ config_after d (says.Ring n) has fits = record {
   lost = has.lost;
   few_lost = has.few_lost;
 }
-config_after d (says.Lag n) has fits = record {
+config_after n d (says.Lag lag) has fits = record {
   few = has.few;
   lines = λ at. has.lines (omega (arith, fits.0));
   delay_each = λ at. has.delay_each (omega (arith, fits.0));
@@ -469,7 +469,7 @@ config_after d (says.Lag n) has fits = record {
   lost = has.lost;
   few_lost = has.few_lost;
 }
-config_after d (says.Ticks n) has fits = record {
+config_after n d (says.Ticks ticks) has fits = record {
   few = has.few;
   lines = λ at. has.lines (omega (arith, fits.0));
   delay_each = λ at. has.delay_each (omega (arith, fits.0));
@@ -480,33 +480,33 @@ config_after d (says.Ticks n) has fits = record {
   size = has.size;
   options = has.options;
   none = λ at. absurd (omega (arith, at));
-  windows = bare n d.config.windows (has.none (omega (arith, fits.0)));
+  windows = bare ticks d.config.windows (has.none (omega (arith, fits.0)));
   lost = has.lost;
   few_lost = has.few_lost;
 }
-config_after d (says.Sink infers) has fits =
+config_after n d (says.Sink infers) has fits =
     config_options d _ has fits.0 (record {
       holdoff = has.options.holdoff;
       restore = has.options.restore;
       statuses = has.options.statuses;
     })
-config_after d (says.Holdoff n) has fits =
+config_after n d (says.Holdoff packets) has fits =
     config_options d _ has fits.0
     (record { holdoff = fits.1; restore = has.options.restore; statuses = has.options.statuses })
-config_after d (says.Restore n) has fits =
+config_after n d (says.Restore packets) has fits =
     config_options d _ has fits.0
     (record { holdoff = has.options.holdoff; restore = fits.1; statuses = has.options.statuses })
-config_after d (says.Statuses n) has fits =
+config_after n d (says.Statuses count) has fits =
     config_options d _ has fits.0
     (record { holdoff = has.options.holdoff; restore = has.options.restore; statuses = fits.1 })
-config_after d (says.Fail m window) has fits = config_fail d m window has fits.0 fits.2
-config_after d (says.Lost first end) has fits =
+config_after n d (says.Fail m window) has fits = config_fail d m window has fits.0 fits.2
+config_after n d (says.Lost first end) has fits =
     config_with d.next 7 d.config d.config.windows (d.config.lost ++ (first, end) ∷ []) d.config.options has fits.0
     (omega arith) refl has.windows (one_loss d first end has.lost fits.2)
     (let room = fits.2.room in omega (arith, room, length-append d.config.lost ((first, end) ∷ []))) has.options
-config_after d (says.Item it) has fits = item_config d it it.kind has fits.0
-config_after d (says.Stream rate) has fits = config_later d.next 8 d.config fits.0 (omega arith) has
-config_after d (says.Event e) has fits = config_later d.next 9 d.config fits.0 (omega arith) has
+config_after n d (says.Item it) has fits = item_config d it it.kind has fits.0
+config_after n d (says.Stream rate) has fits = config_later d.next 8 d.config fits.0 (omega arith) has
+config_after n d (says.Event e) has fits = config_later d.next 9 d.config fits.0 (omega arith) has
 
 -- as long as no item has come, a draft is of its configuration alone
 configured : (d new : Draft) → IsDraft d → d.next ≤ 7 → HasConfig new.next new.config → new.items ≡ d.items →
@@ -528,16 +528,16 @@ configured d new is early has items events =
     }
 
 -- ---- any line
-pub IsDraft-after : (d : Draft) (said : Statement) → IsDraft d → Fits d said → IsDraft (after d said)
-IsDraft-after d says.Nothing is fits = is
-IsDraft-after d (says.Fail m window) is fits =
-    configured d _ is fits.1 (config_after d (says.Fail m window) is.config fits) refl refl
-IsDraft-after d (says.Lost first end) is fits =
-    configured d _ is fits.1 (config_after d (says.Lost first end) is.config fits) refl refl
-IsDraft-after d (says.Item it) is fits = item_after d it.due it.kind is fits
-IsDraft-after d (says.Stream rate) is fits = stream_after d rate is fits
-IsDraft-after d (says.Event e) is fits = record {
-  config = config_after d (says.Event e) is.config fits;
+pub IsDraft-after : (n : ℕ) (d : Draft) (said : Statement) → IsDraft d → Fits d said → IsDraft (after n d said)
+IsDraft-after n d says.Nothing is fits = is
+IsDraft-after n d (says.Fail m window) is fits =
+    configured d _ is fits.1 (config_after n d (says.Fail m window) is.config fits) refl refl
+IsDraft-after n d (says.Lost first end) is fits =
+    configured d _ is fits.1 (config_after n d (says.Lost first end) is.config fits) refl refl
+IsDraft-after n d (says.Item it) is fits = item_after d it.due it.kind is fits
+IsDraft-after n d (says.Stream rate) is fits = stream_after n d rate is fits
+IsDraft-after n d (says.Event e) is fits = record {
+  config = config_after n d (says.Event e) is.config fits;
   no_items = λ at. absurd (omega (arith, at));
   items = is.items;
   few = is.few;
@@ -546,8 +546,8 @@ IsDraft-after d (says.Event e) is fits = record {
   no_events = λ at. absurd (omega (arith, at));
   events = All-push (IsEvent d.config.lines) d.events e is.events fits.1;
 }
-IsDraft-after d said is fits =
-    configured d _ is (omega (arith, fits.0)) (config_after d said is.config fits) refl refl
+IsDraft-after n d said is fits =
+    configured d _ is (omega (arith, fits.0)) (config_after n d said is.config fits) refl refl
 
 -- ---- The least of a list, one step on.
 least_of_two : (n m : ℕ) (ns : List ℕ) → least_or (min n m) ns ≡ min n (least_or m ns)

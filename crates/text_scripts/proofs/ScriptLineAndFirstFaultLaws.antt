@@ -36,7 +36,7 @@ use Rattle.text_scripts.specs.declared.script_read.script_fault.ScriptFault.TheV
 -- ---- The lines of a script, one line on and at the end.
 -- a line without a fault
 pub line_said : (n next : ℕ) (d new : Draft) (all : List (List ℕ)) (l : List ℕ) (ls : List (List ℕ)) → all ≡ l ∷ ls
-    → words_fault d (words l) ≡ None → next ≡ n + 1 → new ≡ after d (words_said (words l))
+    → words_fault d (words l) ≡ None → next ≡ n + 1 → new ≡ after n d (words_said (words l))
     → said_from script_lines n d all ≡ said_from script_lines next new ls
 line_said n next d new all l ls first none one is =
     line_sound script_lines n d new all l ls first none is
@@ -251,7 +251,7 @@ module _ (piece rest later : List ℕ) (within : length rest ≤ length piece) (
       (whole : (more : List ℕ) → lines (take (length rest - length later) rest ++ more) ≡ l ∷ lines more) where
     -- one line more was read
     pub line_more : (next : ℕ) (new : Draft) → words_fault d (words l) ≡ None → next ≡ n + 1 →
-        new ≡ after d (words_said (words l)) → (more : List ℕ) →
+        new ≡ after n d (words_said (words l)) → (more : List ℕ) →
         said_from script_lines n₀ d₀ (lines (take (length piece - length later) piece ++ more))
         ≡ said_from script_lines next new (lines more)
     line_more next new none one grown more =
@@ -313,18 +313,18 @@ fails_on rest all f follows told = elim told [
 
 -- ---- What lines without a fault say is a draft.
 -- ---- a draft line by line
-sound_draft : (ls : List (List ℕ)) (d now : Draft) → IsDraft d → AreSound script_lines d ls now → IsDraft now
+sound_draft : (ls : List (List ℕ)) (n : ℕ) (d now : Draft) → IsDraft d → AreSound script_lines n d ls now → IsDraft now
 unfolding AreSound
-sound_draft [] d now is sound = subst IsDraft sound is
-sound_draft (l ∷ ls) d now is sound =
-    sound_draft ls (after d (words_said (words l))) now
-    (IsDraft-after d (words_said (words l)) is (fits_words d (words l) is sound.0)) sound.1
+sound_draft [] n d now is sound = subst IsDraft sound is
+sound_draft (l ∷ ls) n d now is sound =
+    sound_draft ls (n + 1) (after n d (words_said (words l))) now
+    (IsDraft-after n d (words_said (words l)) is (fits_words d (words l) is sound.0)) sound.1
 
 pub valid_script : (text : List ℕ) (script : Script) → script_of text ≡ Ok script → IsValid script
 valid_script text script said =
     let is = (said_script text script).0 said in
     subst IsValid (sym is.is)
-    (IsValid-draft is.now (sound_draft (lines text) at_first is.now IsDraft-first is.sound) is.whole is.passes)
+    (IsValid-draft is.now (sound_draft (lines text) 1 at_first is.now IsDraft-first is.sound) is.whole is.passes)
 
 pub valid_text : (text : List ℕ) (script : Script) → length text ≤ 67108864 → script_of text ≡ Ok script →
     IsValid script
@@ -333,5 +333,5 @@ valid_text text script short said = valid_script text script said
 pub few_lost_text : (text : List ℕ) (script : Script) → script_of text ≡ Ok script → HasFewLosses script
 few_lost_text text script said =
     let is = (said_script text script).0 said in
-    let read = sound_draft (lines text) at_first is.now IsDraft-first is.sound in
+    let read = sound_draft (lines text) 1 at_first is.now IsDraft-first is.sound in
     subst HasFewLosses (sym is.is) read.config.few_lost

@@ -9,11 +9,11 @@ use Rattle.hex.specs.declared.error.FromHexError.{FromHexError}
 use Rattle.hex.proofs.HexLemmas.{decode_of-ok}
 use Rattle.text_lines.specs.WordsOfLine.{words, octets_of, number_of, word_at, is_skipped, number_at}
 use Rattle.text_lines.proofs.TextLineAndWordLaws.{words_only, or_none, where_none, map_none, number_ok, digits_ok}
-use Rattle.text_lines.proofs.TextLineAndWordLaws.{one_field, two_fields, four_fields}
+use Rattle.text_lines.proofs.TextLineAndWordLaws.{one_field, two_fields}
 use Rattle.std.specs.Option.{option_or}
 use Rattle.text_lines.specs.declared.text_faults.FieldFault.{FieldFault}
 use Rattle.text_lines.specs.Fields.{Field as FieldOf, fields_fault, number_fault, within, any, above, digits, one_of, where_true}
-use Rattle.text_lines.specs.Fields.{name_fault}
+use Rattle.text_lines.specs.Fields.{name_fault, field_fault}
 use Rattle.text_scripts.specs.declared.script_read.script_fault.LineFault.{LineFault}
 use Rattle.text_scripts.specs.declared.script_read.script_fault.LineFault.TheVariants.{Field}
 use Rattle.text_scripts.specs.script_read.Drafts.{delays_fault, one_fault, says_number, most_of, IsPlaced, IsDraft, IsNext, IsNextLost, Fits}
@@ -28,7 +28,8 @@ use Rattle.text_scripts.specs.declared.script_read.script_draft.Draft.{Draft}
 use Rattle.law_rates.specs.Rates.{count_of}
 use Rattle.text_scripts.specs.script_read.Statements.{takes, each_fault, rate_in}
 use Rattle.text_scripts.proofs.StreamWordLaws.{says_rate}
-use Rattle.text_scripts.specs.script_read.Statements.{keyword_of, place, awaited, part_of, begun_at, place_fault}
+use Rattle.text_scripts.specs.script_read.Statements.{keyword_of, place, awaited, behind_fault, place_fault}
+use Rattle.text_scripts.specs.script_read.Statements.{is_longer, longer_fault}
 use Rattle.text_scripts.specs.script_read.Statements.{statuses_of, size_of, fields, windows_of, last_end, last_lost}
 use Rattle.text_scripts.specs.script_read.Statements.{is_full, is_early, full_fault, early_fault, rest_fault}
 use Rattle.text_scripts.specs.script_read.Statements.{known_fault, words_fault, said, known_said, words_said}
@@ -156,14 +157,15 @@ within_six : (next at : ℕ) → (next ≡ at) ⊎ ((next ≡ 0) × (at ≡ 1)) 
 within_six next at (inl same) low = omega (arith, same, low)
 within_six next at (inr passed) low = omega (arith, passed.1)
 
-placed : (next at : ℕ) → place_fault next at ≡ None → IsPlaced next at
-placed next at none =
+placed : (d : Draft) (k : Keyword) → place_fault d k ≡ None → IsPlaced d.next (place k)
+placed d k none =
+    let next = d.next in
+    let at = place k in
     let is = or_none (where_true (nat_lt next 6 && not (at == next || (next == 0 && at == 1)))
-    (wrong.Missing (awaited next))) (where_true (nat_lt at next) (wrong.Part (part_of at) (begun_at next))) none
-    in
+    (wrong.Missing (awaited next))) (where_true (nat_lt at next) (behind_fault d k)) none in
     let missing = where_none (nat_lt next 6 && not (at == next || (next == 0 && at == 1)))
     (wrong.Missing (awaited next)) is.0 in
-    let order = ltb-false at next (where_none (nat_lt at next) (wrong.Part (part_of at) (begun_at next)) is.1) in
+    let order = ltb-false at next (where_none (nat_lt at next) (behind_fault d k) is.1) in
     elim (cases_lt next 6) [
       | inl low ↦
           let e : nat_lt next 6 ≡ true = grind (arith, nat_tests, low) in
@@ -193,6 +195,10 @@ at_options : (next : ℕ) → IsPlaced next 6 → next ≡ 6
 at_options next is = let late = is.1 (omega arith) in omega (arith, late.0, late.1)
 
 -- ---- what a line says
+-- none of this first word stands yet
+not_yet : (n : ℕ) → nat_lt 0 n ≡ false → n ≡ 0
+not_yet n none = let least = ltb-false 0 n none in omega (arith, least)
+
 record HasNoFault (d : Draft) (k : Keyword) (ws : List (List ℕ)) : Type 0 where
   pub count : length ws ≡ takes d k
   pub each : each_fault d k ws ≡ None
@@ -230,19 +236,43 @@ one_number least most ws size none =
 some_lines : (d : Draft) → IsDraft d → 2 ≤ d.next → 1 ≤ d.config.lines
 some_lines d is late = (is.config.lines late).0
 
+-- the words of a failure before its slip
+record ThreeFields (f g h : FieldOf) (at : ℕ) (ws : List (List ℕ)) : Type 0 where
+  first : field_fault f at 0 (word_at 0 ws) ≡ None
+  third : field_fault h (at + 1 + 1) (number_at 1 ws) (word_at 2 ws) ≡ None
+
+three_fields : (f g h : FieldOf) (at : ℕ) (ws : List (List ℕ)) → 3 ≤ length ws →
+    fields_fault (f ∷ g ∷ h ∷ []) at 0 ws ≡ None → ThreeFields f g h at ws
+three_fields f g h at (w ∷ v ∷ u ∷ ws) size none =
+    let one = or_none (field_fault f at 0 w) (fields_fault (g ∷ h ∷ []) (at + 1) (number_of w) (v ∷ u ∷ ws)) none in
+    let two = or_none (field_fault g (at + 1) (number_of w) v)
+    (fields_fault (h ∷ []) (at + 1 + 1) (number_of v) (u ∷ ws)) one.1 in
+    let three = or_none (field_fault h (at + 1 + 1) (number_of v) u)
+    (fields_fault [] (at + 1 + 1 + 1) (number_of u) ws) two.1 in
+    record { first = one.0; third = three.0 }
+three_fields f g h at ws size none = absurd (omega (arith, size))
+
+slip_sound : (w : List ℕ) → longer_fault w ≡ None → number_fault 5 0 longest_slip w ≡ None
+slip_sound w none =
+    let is = or_none (where_true (is_longer w) wrong.LongerPath)
+    (option_map wrong.Field (number_fault 5 0 longest_slip w)) none in
+    map_none wrong.Field (number_fault 5 0 longest_slip w) is.1
+
 next_window : (d : Draft) (ws : List (List ℕ)) → IsDraft d → 6 ≤ d.next → HasNoFault d word.Fail ws
     → IsNext d (number_at 0 ws) (record { first = number_at 1 ws; end = number_at 2 ws; slip = number_at 3 ws })
 next_window d ws is late fine =
-    let four = four_fields (within 0 (d.config.lines - 1)) any (above d.config.ticks)
-    (within 0 longest_slip) 2 ws fine.count (plain (fields d word.Fail) ws fine.each) in
+    let each = or_none (option_map wrong.Field (fields_fault (fields d word.Fail) 2 0 ws))
+    (longer_fault (word_at 3 ws)) fine.each in
+    let three = three_fields (within 0 (d.config.lines - 1)) any (above d.config.ticks) 2 ws
+    (omega (arith, fine.count)) (plain (fields d word.Fail) ws each.0) in
     let some = some_lines d is (omega (arith, late)) in
-    let line = number_ok 2 0 (d.config.lines - 1) (word_at 0 ws) four.first in
-    let end = number_ok 4 (number_at 1 ws + 1) d.config.ticks (word_at 2 ws) four.third in
+    let line = number_ok 2 0 (d.config.lines - 1) (word_at 0 ws) three.first in
+    let end = number_ok 4 (number_at 1 ws + 1) d.config.ticks (word_at 2 ws) three.third in
     record {
       line = omega (arith, some, line.1);
       some = omega (arith, end.0);
       ends = end.1;
-      slips = (number_ok 5 0 longest_slip (word_at 3 ws) four.fourth).1;
+      slips = (number_ok 5 0 longest_slip (word_at 3 ws) (slip_sound (word_at 3 ws) each.1)).1;
       order = ltb-false (number_at 1 ws) (last_end (windows_of d (number_at 0 ws))) fine.order;
       room = leb-false most_windows (length (windows_of d (number_at 0 ws))) fine.room;
     }
@@ -294,15 +324,21 @@ fits_said d word.Lag ws is at fine =
     (at_place d.next 4 (omega arith) (λ e. omega (arith, e)) at, one_number 1 longest_lag ws fine.count fine.each)
 fits_said d word.Ticks ws is at fine =
     (at_place d.next 5 (omega arith) (λ e. omega (arith, e)) at, one_number 1 most_ticks ws fine.count fine.each)
-fits_said d word.Sink ws is at fine = (at_options d.next at, fine.room)
-fits_said d word.Holdoff ws is at fine =
-    (at_options d.next at, (one_number 0 longest_holdoff ws fine.count fine.each).1, fine.room)
-fits_said d word.Restore ws is at fine =
-    (at_options d.next at, (one_number 0 longest_restore ws fine.count fine.each).1, fine.room)
+fits_said d word.Sink ws is at fine = (at_options d.next at, not_yet d.standing.sink fine.room)
+fits_said d word.Holdoff ws is at fine = (
+  at_options d.next at,
+  (one_number 0 longest_holdoff ws fine.count fine.each).1,
+  not_yet d.standing.holdoff fine.room,
+)
+fits_said d word.Restore ws is at fine = (
+  at_options d.next at,
+  (one_number 0 longest_restore ws fine.count fine.each).1,
+  not_yet d.standing.restore fine.room,
+)
 fits_said d word.Statuses ws is at fine = (
   at_options d.next at,
   statuses_ok (word_at 0 ws) (one_field (one_of names.Statuses) 2 ws fine.count (plain (fields d word.Statuses) ws fine.each)),
-  fine.room,
+  not_yet d.standing.statuses fine.room,
 )
 fits_said d word.Fail ws is at fine = let late = at.1 (omega arith) in
     (late.0, late.1, next_window d ws is late.0 fine)
@@ -376,8 +412,8 @@ known_fits : (d : Draft) (ws : List (List ℕ)) (k : Option Keyword) → IsDraft
     Fits d (known_said ws k)
 known_fits d ws None is none = absurd cc
 known_fits d ws (Some k) is none =
-    let parts = or_none (place_fault d.next (place k)) (rest_fault d k ws) none in
-    fits_said d k ws is (placed d.next (place k) parts.0) (no_fault d k ws parts.1)
+    let parts = or_none (place_fault d k) (rest_fault d k ws) none in
+    fits_said d k ws is (placed d k parts.0) (no_fault d k ws parts.1)
 
 skipped_or : (d : Draft) (ws : List (List ℕ)) (skipped : Bool) → is_skipped ws ≡ skipped → IsDraft d →
     words_fault d ws ≡ None → Fits d (words_said ws)

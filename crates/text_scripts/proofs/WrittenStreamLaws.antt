@@ -1,7 +1,7 @@
 -- A stream and the lines of its frames say the same.
 use Rattle.std.proofs.Common.{◌≡◌, ◌≢◌, ℕ, zero, suc, ◌+◌, ◌-◌, ◌*◌, ◌<◌, ◌≤◌, ◌==◌, ◌&&◌, ◌||◌, nat_le, nat_lt, not, Bool, true, false}
 use Rattle.std.proofs.Common.{List, [], ◌∷◌, ◌++◌, length, map, drop, ap, ap₂, sym, ◌∙◌, refl, arith, subst, All, inl, inr}
-use Rattle.std.proofs.Common.{Option, None, Some, option_map, append_assoc, length-append}
+use Rattle.std.proofs.Common.{Option, None, Some, option_map, append_assoc, length-append, ◌⊎◌}
 use Rattle.std.specs.Prelude.{codes, decimal, slice_index, Result, Ok}
 use Rattle.std.specs.List.{list_all}
 use Rattle.std.specs.Option.{option_or}
@@ -22,6 +22,7 @@ use Rattle.law_rates.proofs.RateCountLaws.{due_first, from_first, from_end, from
 use Rattle.law_model.specs.Common.{IsItem, longest_offer, most_items, most_ticks}
 use Rattle.law_model.specs.declared.script_types.Item.{Item}
 use Rattle.law_model.specs.declared.script_types.Script.{Script}
+use Rattle.law_model.specs.declared.script_types.ItemKind.{ItemKind}
 use Rattle.law_model.specs.declared.script_types.ItemKind.TheVariants as item
 use Rattle.law_model.specs.session.Items.{stream_item, stream_items}
 use Rattle.text_lines.specs.Cut.{Lacks}
@@ -35,7 +36,9 @@ use Rattle.text_scripts.specs.declared.script_read.script_fault.LineFault.TheVar
 use Rattle.text_scripts.specs.declared.script_read.script_keyword.Keyword.{Keyword}
 use Rattle.text_scripts.specs.declared.script_read.script_keyword.Keyword.TheVariants as word
 use Rattle.text_scripts.specs.declared.script_read.script_draft.Draft.{Draft}
-use Rattle.text_scripts.specs.script_read.Statements.{place_fault, awaited, part_of, begun_at, rest_fault}
+use Rattle.text_scripts.specs.declared.script_read.script_draft.Statement.{Statement}
+use Rattle.text_scripts.specs.declared.script_read.script_draft.Statement.TheVariants as says
+use Rattle.text_scripts.specs.script_read.Statements.{place_fault, awaited, behind_fault, rest_fault}
 use Rattle.text_scripts.specs.script_read.Statements.{full_fault, early_fault, keyword_of, words_fault, words_said, known_said}
 use Rattle.text_scripts.specs.script_read.Statements.{after, at_first, rate_in}
 use Rattle.text_scripts.specs.script_read.Drafts.{IsDraft, Fits, IsNextStream}
@@ -48,7 +51,7 @@ use Rattle.text_scripts.proofs.StatementAndWordFaultLaws.{fits_words}
 use Rattle.text_scripts.proofs.ScriptLineAndFirstFaultLaws.{said_script}
 
 -- ---- decimal digits
-are_digits_test : IsDigitsTest (λ w. list_all is_digit w ≡ true)
+pub are_digits_test : IsDigitsTest (λ w. list_all is_digit w ≡ true)
 are_digits_test = record {
   empty = refl;
   parts = λ c cs all.
@@ -64,27 +67,27 @@ folds = record {
   more = λ n c cs range. ap (λ (m : ℕ). number_after m cs) (let e : 10 * n + (c - 48) ≡ n * 10 + (c - 48) = omega arith in e);
 }
 
-numerals : IsNumeralModel (λ w. list_all is_digit w ≡ true) (number_after 0)
+pub numerals : IsNumeralModel (λ w. list_all is_digit w ≡ true) (number_after 0)
 numerals = numerals_by_fold (λ w. list_all is_digit w ≡ true) are_digits_test number_after folds
 
-decimal_number : (n : ℕ) → n < 10000000000 → is_number (decimal n) ≡ true
+pub decimal_number : (n : ℕ) → n < 10000000000 → is_number (decimal n) ≡ true
 decimal_number n small =
     let some = decimal_nonempty n (omega (arith, small)) in
     let short = length-decimal-le 10 n (omega arith) (omega (arith, small)) (omega (arith, small)) in
     rw (le-leb 1 (length (decimal n)) some, le-leb (length (decimal n)) 10 short)
     (digits_decimal numerals n (omega (arith, small)))
 
-decimal_value : (n : ℕ) → n < 10000000000 → number_of (decimal n) ≡ n
+pub decimal_value : (n : ℕ) → n < 10000000000 → number_of (decimal n) ≡ n
 decimal_value n small = digits_value-decimal numerals n (omega (arith, small))
 
 -- ---- characters that a line of a frame lacks
-lacks_by : (c : ℕ) (w : List ℕ) → list_all (λ d. not (d == c)) w ≡ true → Lacks c w
+pub lacks_by : (c : ℕ) (w : List ℕ) → list_all (λ d. not (d == c)) w ≡ true → Lacks c w
 lacks_by c [] all = All-nil (λ d. d ≢ c)
 lacks_by c (d ∷ w) all =
     let both = and_parts (not (d == c)) (list_all (λ d. not (d == c)) w) all in
     All-cons (λ d. d ≢ c) d w (λ e. (let bad : false ≡ true = rw (eq-eqb d c e) at both.0 in cc)) (lacks_by c w both.1)
 
-digits_lack : (c : ℕ) (w : List ℕ) → c < 48 → list_all is_digit w ≡ true → Lacks c w
+pub digits_lack : (c : ℕ) (w : List ℕ) → c < 48 → list_all is_digit w ≡ true → Lacks c w
 digits_lack c [] low all = All-nil (λ d. d ≢ c)
 digits_lack c (d ∷ w) low all =
     let both = and_parts (is_digit d) (list_all is_digit w) all in
@@ -93,14 +96,14 @@ digits_lack c (d ∷ w) low all =
 
 -- the digits of octets
 module _ (octets : List ℕ) (bytes : All (λ o. o < 256) octets) where
-  are_bytes : (i : ℕ) → slice_index octets i < 256
+  pub are_bytes : (i : ℕ) → slice_index octets i < 256
   are_bytes i =
       elim (cases_lt i (length octets)) [
         | inl less ↦ bytes i 0 less
         | inr past ↦ (let none = get_or_past octets i 0 past in omega (arith, none))
       ]
 
-  decoded : decode_of (encode_lower octets) ≡ Ok octets
+  pub decoded : decode_of (encode_lower octets) ≡ Ok octets
   decoded = decode_of-encode_lower octets are_bytes
 
   hex_lacks : (c : ℕ) → is_hex_digit c ≡ false → Lacks c (encode_lower octets)
@@ -109,10 +112,10 @@ module _ (octets : List ℕ) (bytes : All (λ o. o < 256) octets) where
       (λ d digit e. (let bad : true ≡ false = sym digit ∙ ap is_hex_digit e ∙ other in cc)) (encode_lower octets)
       (decode_of-ok (encode_lower octets) octets decoded).1
 
-  length-hex : length (encode_lower octets) ≡ 2 * length octets
+  pub length-hex : length (encode_lower octets) ≡ 2 * length octets
   length-hex = (decode_of-ok (encode_lower octets) octets decoded).2
 
-  same_octets : octets_of (encode_lower octets) ≡ octets
+  pub same_octets : octets_of (encode_lower octets) ≡ octets
   same_octets = ap (λ (r : Result (List ℕ) FromHexError). result_unwrap_or r []) decoded
 
   -- ---- the line of a frame
@@ -157,13 +160,13 @@ module _ (octets : List ℕ) (bytes : All (λ o. o < 256) octets) where
         (words_only hex (hex_lacks 32 refl) (let long = length-hex in omega (arith, long, some))))
 
 -- ---- tests that find nothing
-or_fine : {T : Type 0} (f g : Option T) → f ≡ None → g ≡ None → option_or f g ≡ None
+pub or_fine : {T : Type 0} (f g : Option T) → f ≡ None → g ≡ None → option_or f g ≡ None
 or_fine f g a b = ap (λ x. option_or x g) a ∙ b
 
-where_fine : {K : Type 0} (b : Bool) (fault : K) → b ≡ false → where_true b fault ≡ None
+pub where_fine : {K : Type 0} (b : Bool) (fault : K) → b ≡ false → where_true b fault ≡ None
 where_fine b fault e = ap (λ x. where_true x fault) e
 
-number_fine : (at least most : ℕ) (w : List ℕ) → is_number w ≡ true → least ≤ number_of w → number_of w ≤ most →
+pub number_fine : (at least most : ℕ) (w : List ℕ) → is_number w ≡ true → least ≤ number_of w → number_of w ≤ most →
     number_fault at least most w ≡ None
 number_fine at least most w number low high =
     or_fine (where_true (not (is_number w)) (field.Number at))
@@ -172,22 +175,23 @@ number_fine at least most w number low high =
     (where_fine (not (nat_le least (number_of w) && nat_le (number_of w) most)) (field.Range at least most)
     (ap₂ (λ a b. not (a && b)) (le-leb least (number_of w) low) (le-leb (number_of w) most high)))
 
-place_fine : (next : ℕ) → 6 ≤ next → next ≤ 8 → place_fault next 8 ≡ None
-place_fine next low high =
+place_fine : (d : Draft) → 6 ≤ d.next → d.next ≤ 8 → place_fault d word.Frame ≡ None
+place_fine d low high =
+    let next = d.next in
     or_fine (where_true (nat_lt next 6 && not (8 == next || (next == 0 && 8 == 1))) (wrong.Missing (awaited next)))
-    (where_true (nat_lt 8 next) (wrong.Part (part_of 8) (begun_at next)))
+    (where_true (nat_lt 8 next) (behind_fault d word.Frame))
     (where_fine (nat_lt next 6 && not (8 == next || (next == 0 && 8 == 1))) (wrong.Missing (awaited next))
     (rw (le-ltb next 6 low) refl))
-    (where_fine (nat_lt 8 next) (wrong.Part (part_of 8) (begun_at next)) (le-ltb 8 next high))
+    (where_fine (nat_lt 8 next) (behind_fault d word.Frame) (le-ltb 8 next high))
 
 -- ---- the line of a frame in a draft
-record TakesFrame (d : Draft) (due : ℕ) (octets : List ℕ) : Type 0 where
-  low : 6 ≤ d.next
-  high : d.next ≤ 8
-  ticks : d.config.ticks ≤ most_ticks
-  fits : IsItem d.config.ticks (record { due = due; kind = item.Frame octets })
-  room : length d.items < most_items
-  order : d.frame_due ≤ due
+pub record TakesFrame (d : Draft) (due : ℕ) (octets : List ℕ) : Type 0 where
+  pub low : 6 ≤ d.next
+  pub high : d.next ≤ 8
+  pub ticks : d.config.ticks ≤ most_ticks
+  pub fits : IsItem d.config.ticks (record { due = due; kind = item.Frame octets })
+  pub room : length d.items < most_items
+  pub order : d.frame_due ≤ due
 
 frame_rest : (d : Draft) (due : ℕ) (octets : List ℕ) → TakesFrame d due octets →
     rest_fault d word.Frame (decimal due ∷ encode_lower octets ∷ []) ≡ None
@@ -222,28 +226,28 @@ frame_rest d due octets takes =
     (where_fine (nat_lt (number_of (decimal due)) d.frame_due) (early_fault d word.Frame ws)
     (le-ltb (number_of (decimal due)) d.frame_due (omega (arith, value, order)))))
 
-frame_sound : (d : Draft) (due : ℕ) (octets : List ℕ) → TakesFrame d due octets →
+pub frame_sound : (d : Draft) (due : ℕ) (octets : List ℕ) → TakesFrame d due octets →
     words_fault d (codes "frame" ∷ decimal due ∷ encode_lower octets ∷ []) ≡ None
 frame_sound d due octets takes =
-    or_fine (place_fault d.next 8) (rest_fault d word.Frame (decimal due ∷ encode_lower octets ∷ []))
-    (place_fine d.next takes.low takes.high) (frame_rest d due octets takes)
+    or_fine (place_fault d word.Frame) (rest_fault d word.Frame (decimal due ∷ encode_lower octets ∷ []))
+    (place_fine d takes.low takes.high) (frame_rest d due octets takes)
 
 abbrev with_frames : Draft → List Item → ℕ → Draft
 with_frames d items due = record d { next = 8; items = d.items ++ items; frame_due = due }
 
-frame_after : (d : Draft) (due : ℕ) (octets : List ℕ) → due < 10000000000 → All (λ o. o < 256) octets →
-    after d (words_said (codes "frame" ∷ decimal due ∷ encode_lower octets ∷ []))
+frame_after : (m : ℕ) (d : Draft) (due : ℕ) (octets : List ℕ) → due < 10000000000 → All (λ o. o < 256) octets →
+    after m d (words_said (codes "frame" ∷ decimal due ∷ encode_lower octets ∷ []))
     ≡ with_frames d (record { due = due; kind = item.Frame octets } ∷ []) due
-frame_after d due octets small bytes =
+frame_after m d due octets small bytes =
     ap₂ (λ (n : ℕ) (l : List ℕ). with_frames d (record { due = n; kind = item.Frame l } ∷ []) n)
     (decimal_value due small) (same_octets octets bytes)
 
 -- one line more
-frame_read : (d now : Draft) (f : RateFrame) (ls : List (List ℕ)) → TakesFrame d f.due f.octets →
-    AreSound script_lines (with_frames d (stream_item f ∷ []) f.due) ls now →
-    AreSound script_lines d ((start_of f.due ++ encode_lower f.octets) ∷ ls) now
+frame_read : (m : ℕ) (d now : Draft) (f : RateFrame) (ls : List (List ℕ)) → TakesFrame d f.due f.octets →
+    AreSound script_lines (m + 1) (with_frames d (stream_item f ∷ []) f.due) ls now →
+    AreSound script_lines m d ((start_of f.due ++ encode_lower f.octets) ∷ ls) now
 unfolding AreSound
-frame_read d now f ls takes sound =
+frame_read m d now f ls takes sound =
     let early : f.due < d.config.ticks = takes.fits.0 in
     let most = takes.ticks in
     let small : f.due < 10000000000 = omega (arith, early, most) in
@@ -251,9 +255,9 @@ frame_read d now f ls takes sound =
     let some = takes.fits.1.0.0 in
     let are = line_words f.octets bytes f.due small some in (
       ap (words_fault d) are ∙ frame_sound d f.due f.octets takes,
-      subst (λ (x : Draft). AreSound script_lines x ls now)
-          (sym (ap (λ (ws : List (List ℕ)). after d (words_said ws)) are
-          ∙ frame_after d f.due f.octets small bytes)) sound,
+      subst (λ (x : Draft). AreSound script_lines (m + 1) x ls now)
+          (sym (ap (λ (ws : List (List ℕ)). after m d (words_said ws)) are
+          ∙ frame_after m d f.due f.octets small bytes)) sound,
     )
 
 -- ---- all frames of a rate, from one on
@@ -292,11 +296,12 @@ lines_here rate k inside fits =
     ∙ ap lines (lines_next f (frames_from rate (suc k)))
     ∙ first_line f.octets fits.1.1 f.due (omega (arith, early)) fits.1.0.0 (lines_of (frames_from rate (suc k)))
 
-frames_read : (rate : Rate) (n k : ℕ) (d now : Draft) (rest : List (List ℕ)) → k + n + 1 ≡ count_of rate →
+frames_read : (rate : Rate) (n k m : ℕ) (d now : Draft) (rest : List (List ℕ)) → k + n + 1 ≡ count_of rate →
     TakesStream d rate k →
-    AreSound script_lines (with_frames d (map stream_item (frames_from rate k)) (due_of rate (count_of rate - 1))) rest now →
-    AreSound script_lines d (lines (lines_of (frames_from rate k)) ++ rest) now
-frames_read rate zero k d now rest size takes sound =
+    ((j : ℕ) → AreSound script_lines j
+    (with_frames d (map stream_item (frames_from rate k)) (due_of rate (count_of rate - 1))) rest now) →
+    AreSound script_lines m d (lines (lines_of (frames_from rate k)) ++ rest) now
+frames_read rate zero k m d now rest size takes sound =
     let inside : k < count_of rate = omega (arith, size) in
     let f : RateFrame = frame_at rate k in
     let last : count_of rate - 1 ≡ k = omega (arith, size) in
@@ -306,11 +311,12 @@ frames_read rate zero k d now rest size takes sound =
     let is_line : lines (lines_of (frames_from rate k)) ≡ line ∷ [] =
     lines_here rate k inside (frame_item rate most_ticks k takes.sound takes.sound.end inside)
     ∙ ap (λ (fs : List RateFrame). line ∷ lines (lines_of fs)) none ∙ ap (λ (t : List ℕ). line ∷ lines t) no_lines in
-    subst (λ (ls : List (List ℕ)). AreSound script_lines d (ls ++ rest) now) (sym is_line)
-    (frame_read d now f rest (takes_frame d rate k inside takes)
-    (subst (λ (x : Draft). AreSound script_lines x rest now)
-    (ap₂ (λ (fs : List RateFrame) (due : ℕ). with_frames d (map stream_item fs) due) one (ap (due_of rate) last)) sound))
-frames_read rate (suc n) k d now rest size takes sound =
+    subst (λ (ls : List (List ℕ)). AreSound script_lines m d (ls ++ rest) now) (sym is_line)
+    (frame_read m d now f rest (takes_frame d rate k inside takes)
+    (subst (λ (x : Draft). AreSound script_lines (m + 1) x rest now)
+    (ap₂ (λ (fs : List RateFrame) (due : ℕ). with_frames d (map stream_item fs) due) one (ap (due_of rate) last))
+    (sound (m + 1))))
+frames_read rate (suc n) k m d now rest size takes sound =
     let inside : k < count_of rate = omega (arith, size) in
     let f : RateFrame = frame_at rate k in
     let line = start_of f.due ++ encode_lower f.octets in
@@ -329,21 +335,21 @@ frames_read rate (suc n) k d now rest size takes sound =
       room = omega (arith, room, long);
       order = due_later rate k (suc k) takes.sound (omega arith) (omega (arith, size));
     } in
-    subst (λ (ls : List (List ℕ)). AreSound script_lines d (ls ++ rest) now)
+    subst (λ (ls : List (List ℕ)). AreSound script_lines m d (ls ++ rest) now)
     (sym (lines_here rate k inside (frame_item rate most_ticks k takes.sound takes.sound.end inside)))
-    (frame_read d now f (lines (lines_of later) ++ rest) one
-    (frames_read rate n (suc k) next now rest (omega (arith, size)) other
-    (subst (λ (x : Draft). AreSound script_lines x rest now)
+    (frame_read m d now f (lines (lines_of later) ++ rest) one
+    (frames_read rate n (suc k) (m + 1) next now rest (omega (arith, size)) other
+    (λ j. subst (λ (x : Draft). AreSound script_lines j x rest now)
     (ap (λ (fs : List RateFrame). with_frames d (map stream_item fs) last) (from_here rate k inside)
     ∙ sym (ap (λ (items : List Item). record d { next = 8; items = items; frame_due = last })
-    (append_assoc d.items (stream_item f ∷ []) (map stream_item later)))) sound)))
+    (append_assoc d.items (stream_item f ∷ []) (map stream_item later)))) (sound j))))
 
 -- ---- a stream, and the lines of its frames
-stream_read : (d now : Draft) (rate : Rate) (rest : List (List ℕ)) → IsDraft d → 6 ≤ d.next → d.next ≤ 8 →
+stream_read : (m : ℕ) (d now : Draft) (rate : Rate) (rest : List (List ℕ)) → IsDraft d → 6 ≤ d.next → d.next ≤ 8 →
     IsNextStream d rate →
-    AreSound script_lines (with_frames d (stream_items rate) (due_of rate (count_of rate - 1))) rest now →
-    AreSound script_lines d (lines (rate_text rate) ++ rest) now
-stream_read d now rate rest is low high next sound =
+    ((j : ℕ) → AreSound script_lines j (with_frames d (stream_items rate) (due_of rate (count_of rate - 1))) rest now) →
+    AreSound script_lines m d (lines (rate_text rate) ++ rest) now
+stream_read m d now rate rest is low high next sound =
     let some = some_frames rate next.sound in
     let all = from_first rate 0 refl in
     let takes : TakesStream d rate 0 = record {
@@ -355,44 +361,87 @@ stream_read d now rate rest is low high next sound =
       room = (let room = next.room in omega (arith, room));
       order = (let order = next.order in omega (arith, order, due_first rate));
     } in
-    subst (λ (fs : List RateFrame). AreSound script_lines d (lines (lines_of fs) ++ rest) now) all
-    (frames_read rate (count_of rate - 1) 0 d now rest (omega (arith, some)) takes
-    (subst (λ (fs : List RateFrame). AreSound script_lines
-    (with_frames d (map stream_item fs) (due_of rate (count_of rate - 1))) rest now) (sym all) sound))
+    subst (λ (fs : List RateFrame). AreSound script_lines m d (lines (lines_of fs) ++ rest) now) all
+    (frames_read rate (count_of rate - 1) 0 m d now rest (omega (arith, some)) takes
+    (λ j. subst (λ (fs : List RateFrame). AreSound script_lines j
+    (with_frames d (map stream_item fs) (due_of rate (count_of rate - 1))) rest now) (sym all) (sound j)))
 
 -- ---- any line
+-- behind the first item a line adds the same whatever its number
+record AddsAlike (n m : ℕ) (d : Draft) (said : Statement) : Type 0 where
+  same : after m d said ≡ after n d said
+  late : 8 ≤ (after n d said).next
+
+item_alike : (n m : ℕ) (d : Draft) (due : ℕ) (kind : ItemKind) → AddsAlike n m d (says.Item (record { due = due; kind = kind }))
+item_alike n m d due (item.Frame octets) = record { same = refl; late = omega arith }
+item_alike n m d due (item.Add line) = record { same = refl; late = omega arith }
+item_alike n m d due (item.Remove line) = record { same = refl; late = omega arith }
+
+adds_alike : (n m : ℕ) (d : Draft) (said : Statement) → 8 ≤ d.next → Fits d said → AddsAlike n m d said
+adds_alike n m d says.Nothing late fits = record { same = refl; late = late }
+adds_alike n m d (says.Fail line window) late fits = absurd (let high = fits.1 in omega (arith, late, high))
+adds_alike n m d (says.Lost first end) late fits = absurd (let high = fits.1 in omega (arith, late, high))
+adds_alike n m d (says.Item it) late fits = item_alike n m d it.due it.kind
+adds_alike n m d (says.Stream rate) late fits = record { same = refl; late = omega arith }
+adds_alike n m d (says.Event e) late fits = record { same = refl; late = omega arith }
+adds_alike n m d said late fits = absurd (let at = fits.0 in omega (arith, late, at))
+
+-- lines that are numbered anew say the same where their numbers are the same, or behind the first item
+abbrev MayMove : ℕ → ℕ → Draft → Type 0
+MayMove n m d = (m ≡ n) ⊎ (8 ≤ d.next)
+
 -- a line that stays
-kept : (d now : Draft) (l : List ℕ) (rest : List (List ℕ)) → words_fault d (words l) ≡ None →
-    AreSound script_lines (after d (words_said (words l))) rest now → AreSound script_lines d (l ∷ [] ++ rest) now
-unfolding AreSound
-kept d now l rest none sound = (none, sound)
+module _ (m : ℕ) (d now : Draft) (l : List ℕ) (rest : List (List ℕ)) (none : words_fault d (words l) ≡ None)
+    (sound : (j : ℕ) → MayMove (m + 1) j (after m d (words_said (words l))) →
+    AreSound script_lines j (after m d (words_said (words l))) rest now) where
+  kept : AreSound script_lines m d (l ∷ [] ++ rest) now
+  unfolding AreSound
+  kept = (none, sound (m + 1) (inl refl))
 
-by_keyword : (d now : Draft) (l : List ℕ) (ws : List (List ℕ)) (k : Option Keyword) (rest : List (List ℕ)) → IsDraft d →
-    words_fault d (words l) ≡ None → words_said (words l) ≡ known_said ws k → Fits d (known_said ws k) →
-    AreSound script_lines (after d (words_said (words l))) rest now → AreSound script_lines d (written_by l ws k ++ rest) now
-by_keyword d now l ws (Some word.Stream) rest is none said fits sound =
-    stream_read d now (rate_in ws) rest is fits.0 fits.1 fits.2
-    (subst (λ s. AreSound script_lines (after d s) rest now) said sound)
-by_keyword d now l ws k rest is none said fits sound = kept d now l rest none sound
+  by_keyword : (ws : List (List ℕ)) (k : Option Keyword) → IsDraft d → words_said (words l) ≡ known_said ws k →
+      Fits d (known_said ws k) → AreSound script_lines m d (written_by l ws k ++ rest) now
+  by_keyword ws (Some word.Stream) is said fits =
+      stream_read m d now (rate_in ws) rest is fits.0 fits.1 fits.2
+      (λ j. subst (λ s. AreSound script_lines j (after m d s) rest now) said
+      (sound j (inr (subst (λ s. 8 ≤ (after m d s).next) (sym said) (omega arith)))))
+  by_keyword ws k is said fits = kept
 
-by_first : (d now : Draft) (l : List ℕ) (rest : List (List ℕ)) (skipped : Bool) → is_skipped (words l) ≡ skipped →
-    IsDraft d → words_fault d (words l) ≡ None → AreSound script_lines (after d (words_said (words l))) rest now →
-    AreSound script_lines d (written l ++ rest) now
-by_first d now l rest true skips is none sound = rw skips (kept d now l rest none sound)
-by_first d now l rest false says is none sound =
-    let said : words_said (words l) ≡ known_said (drop 1 (words l)) (keyword_of (word_at 0 (words l))) = rw says refl in
-    let fits = subst (Fits d) said (fits_words d (words l) is none) in
-    rw says
-    (by_keyword d now l (drop 1 (words l)) (keyword_of (word_at 0 (words l))) rest is none said fits sound)
+  by_first : (skipped : Bool) → is_skipped (words l) ≡ skipped → IsDraft d →
+      AreSound script_lines m d (written l ++ rest) now
+  by_first true skips is = rw skips kept
+  by_first false says is =
+      let said : words_said (words l) ≡ known_said (drop 1 (words l)) (keyword_of (word_at 0 (words l))) =
+      rw says refl in
+      let fits = subst (Fits d) said (fits_words d (words l) is none) in
+      rw says (by_keyword (drop 1 (words l)) (keyword_of (word_at 0 (words l))) is said fits)
 
-all_read : (ls : List (List ℕ)) (d now : Draft) → IsDraft d → AreSound script_lines d ls now →
-    AreSound script_lines d (all_written ls) now
+-- the lines behind one may move on where it may
+moves_on : (n m j : ℕ) (d : Draft) (said : Statement) → MayMove n m d → Fits d said →
+    MayMove (m + 1) j (after m d said) → (after m d said ≡ after n d said) × MayMove (n + 1) j (after n d said)
+moves_on n m j d said (inl same) fits near =
+    let e : after m d said ≡ after n d said = ap (λ (k : ℕ). after k d said) same in (
+      e,
+      elim near [
+        | inl next ↦ inl (omega (arith, next, same))
+        | inr late ↦ inr (subst (λ (x : Draft). 8 ≤ x.next) e late)
+      ],
+    )
+moves_on n m j d said (inr late) fits near =
+    let alike = adds_alike n m d said late fits in (alike.same, inr alike.late)
+
+all_read : (ls : List (List ℕ)) (n m : ℕ) (d now : Draft) → IsDraft d → MayMove n m d →
+    AreSound script_lines n d ls now → AreSound script_lines m d (all_written ls) now
 unfolding AreSound all_written
-all_read [] d now is sound = sound
-all_read (l ∷ ls) d now is sound =
-    let next : Draft = after d (words_said (words l)) in
-    by_first d now l (all_written ls) (is_skipped (words l)) refl is sound.0
-    (all_read ls next now (IsDraft-after d (words_said (words l)) is (fits_words d (words l) is sound.0)) sound.1)
+all_read [] n m d now is may sound = sound
+all_read (l ∷ ls) n m d now is may sound =
+    let said = words_said (words l) in
+    let fits = fits_words d (words l) is sound.0 in
+    by_first m d now l (all_written ls) sound.0
+    (λ j near.
+    let on = moves_on n m j d said may fits near in
+    subst (λ (x : Draft). AreSound script_lines j x (all_written ls) now) (sym on.0)
+    (all_read ls (n + 1) j (after n d said) now (IsDraft-after n d said is fits) on.1 sound.1))
+    (is_skipped (words l)) refl is
 
 -- ---- the text
 pub same_script : (text other : List ℕ) (script : Script) → lines other ≡ all_written (lines text) →
@@ -401,8 +450,8 @@ same_script text other script same said =
     let is = (said_script text script).0 said in
     (said_script other script).1 (record {
       now = is.now;
-      sound = subst (λ (ls : List (List ℕ)). AreSound script_lines at_first ls is.now) (sym same)
-          (all_read (lines text) at_first is.now IsDraft-first is.sound);
+      sound = subst (λ (ls : List (List ℕ)). AreSound script_lines 1 at_first ls is.now) (sym same)
+          (all_read (lines text) 1 1 at_first is.now IsDraft-first (inl refl) is.sound);
       whole = is.whole;
       passes = is.passes;
       is = is.is;

@@ -1,6 +1,6 @@
 -- One saying more to an AnsweredWalk (IsAnswered), in each leg that agrees with what was said (IsLegOf).
 use Rattle.std.proofs.Common.{◌≡◌, ℕ, ◌+◌, ◌<◌, List, [], ◌∷◌, ◌++◌, length, slice_index_or, refl, sym, ◌∙◌, ap, subst}
-use Rattle.std.proofs.Common.{append-nil, arith, ◌^◌, ◌≤◌, Bool, slice_set, Option, Some, None, ap₂, length-append, Ok}
+use Rattle.std.proofs.Common.{append-nil, arith, ◌^◌, ◌≤◌, slice_set, Option, Some, None, ap₂, length-append, Ok}
 use Rattle.std.proofs.Common.{Err, Result, OnOk, OnErr}
 use Rattle.std.proofs.lemmas.List.{get_or-map, length-map}
 use Rattle.law_model.specs.Common.{IsNetwork, Leg, begin, AppendsPart}
@@ -40,6 +40,7 @@ use Rattle.octet_io.specs.declared.source_and_sink.Failed.{Failed}
 use Rattle.text_got.proofs.WaitingTextInBlockLaws.{Holds-waits}
 use Rattle.law_live.specs.LiveAnswers.{answers_from as live_answers_from}
 use Rattle.walk_live.specs.Talking.{AnswersMore}
+use Rattle.walk_live.specs.declared.asked.Asked.{Asked}
 
 -- ---- A walk that is told what is said, in each leg that agrees with it.
 -- ---- legs
@@ -159,11 +160,11 @@ pub other-then : (was now next : AnsweredWalk) → IsOtherwise was now → IsOth
 other-then was now next first second = record {
   lines = second.lines ∙ first.lines;
   items = second.items ∙ first.items;
-  steps = second.steps ∙ first.steps;
+  tells = second.tells ∙ first.tells;
 }
 
-module _ (walk : AnsweredWalk) (steps : Bool) (config : Config) (said : List Saying)
-    (is : IsAnswered walk steps config said)
+module _ (walk : AnsweredWalk) (asked : Asked) (config : Config) (said : List Saying)
+    (is : IsAnswered walk asked config said)
   where
     -- ---- how it stands
     pub now-live : IsLive walk.walk
@@ -200,7 +201,7 @@ module _ (walk : AnsweredWalk) (steps : Bool) (config : Config) (said : List Say
             ((leg : Leg) → LiveStands leg walk.walk → LiveStands leg now) →
             walking_counts now ≡ walking_counts walk.walk →
             windows_in now.way.lines ≡ slice_set (windows_in walk.walk.way.lines) m windows →
-            IsAnswered (record walk { walk = now }) steps config (said ++ saying ∷ [])
+            IsAnswered (record walk { walk = now }) asked config (said ++ saying ∷ [])
         line-answered inside none after same stands counts set =
             let live : Live = live_of config said in
             let whole = live-one config said saying ∙ after in
@@ -221,7 +222,7 @@ module _ (walk : AnsweredWalk) (steps : Bool) (config : Config) (said : List Say
                   ∙ sym (ap (λ (l : Live). windows_by config.ticks (course_at l n)) whole));
               lines = is.lines;
               items = is.items ∙ sym (ap (λ (l : Live). length l.items) whole);
-              steps = is.steps;
+              tells = is.tells;
             }
 
     -- ---- a cut
@@ -260,7 +261,7 @@ module _ (walk : AnsweredWalk) (steps : Bool) (config : Config) (said : List Say
           windows_in now.way.lines ≡ slice_set (windows_in walk.walk.way.lines) m
           (opened_at (slice_index_or (windows_in walk.walk.way.lines) m []) (walking_counts walk.walk).ticks
           walk.walk.way.source.total) →
-          IsAnswered (record walk { walk = now }) steps config (said ++ cuts m ∷ [])
+          IsAnswered (record walk { walk = now }) asked config (said ++ cuts m ∷ [])
       cut-answered now stands counts set =
           let can = can-one config said (cuts m) well in
           let live : Live = live_of config said in
@@ -297,7 +298,7 @@ module _ (walk : AnsweredWalk) (steps : Bool) (config : Config) (said : List Say
           walking_counts now ≡ walking_counts walk.walk →
           windows_in now.way.lines ≡ slice_set (windows_in walk.walk.way.lines) m
           (closed_at (slice_index_or (windows_in walk.walk.way.lines) m []) (walking_counts walk.walk).ticks) →
-          IsAnswered (record walk { walk = now }) steps config (said ++ mends m ∷ [])
+          IsAnswered (record walk { walk = now }) asked config (said ++ mends m ∷ [])
       mend-answered now stands counts set =
           let can = can-one config said (mends m) well in
           let live : Live = live_of config said in
@@ -355,7 +356,7 @@ module _ (walk : AnsweredWalk) (steps : Bool) (config : Config) (said : List Say
           ((leg : Leg) → LiveStands leg walk.walk → IsDue leg (walking_counts walk.walk) kind →
           LiveMakes leg (landing_of (is_client kind)) walk.walk now answer) →
           windows_in now.way.lines ≡ windows_in walk.walk.way.lines →
-          IsAnswered (record walk { walk = now; items = items }) steps config (said ++ lands kind ∷ [])
+          IsAnswered (record walk { walk = now; items = items }) asked config (said ++ lands kind ∷ [])
       land-answered now items answer one makes same = record {
         network = is.network;
         well = well;
@@ -370,7 +371,7 @@ module _ (walk : AnsweredWalk) (steps : Bool) (config : Config) (said : List Say
             ∙ sym (ap (λ (l : Live). windows_by config.ticks (course_at l m)) (live-one config said (lands kind))));
         lines = is.lines;
         items = one ∙ sym land-size;
-        steps = is.steps;
+        tells = is.tells;
       }
 
       land-refusal : (result : Option Refusal) →
@@ -388,23 +389,23 @@ module _ (walk : AnsweredWalk) (steps : Bool) (config : Config) (said : List Say
       pub land-refused : (why : Refusal) →
           ((leg : Leg) → LiveStands leg walk.walk → IsDue leg (walking_counts walk.walk) kind →
           Some why ≡ refusal_in_event leg (walking_counts walk.walk) (landing_of (is_client kind))) →
-          refused_text walk.items why ≡ answer_to steps config said (lands kind)
+          refused_text walk.items why ≡ answer_to asked config said (lands kind)
       land-refused why refused =
           let leg : Leg = leg_said config (said ++ lands kind ∷ []) in
           let less = leg-less config said (lands kind ∷ []) leg well land-own in
-          refused-text steps leg (live_counts leg said) kind walk.items why
+          refused-text asked leg (live_counts leg said) kind walk.items why
           (is.items ∙ sym (agrees-number config leg less.sound said is.well less.agrees))
           (land-refusal (Some why) refused)
-          ∙ sym (ap (answers_text (step_line steps leg)) (answer-one leg said (lands kind)))
+          ∙ sym (ap (answers_text (step_line asked leg)) (answer-one leg said (lands kind)))
 
       pub land-accepted :
           ((leg : Leg) → LiveStands leg walk.walk → IsDue leg (walking_counts walk.walk) kind →
           None ≡ refusal_in_event leg (walking_counts walk.walk) (landing_of (is_client kind))) →
-          answer_to steps config said (lands kind) ≡ []
+          answer_to asked config said (lands kind) ≡ []
       land-accepted refused =
           let leg : Leg = leg_said config (said ++ lands kind ∷ []) in
-          ap (answers_text (step_line steps leg)) (answer-one leg said (lands kind))
-          ∙ accepted-text steps leg (live_counts leg said) kind (land-refusal None refused)
+          ap (answers_text (step_line asked leg)) (answer-one leg said (lands kind))
+          ∙ accepted-text asked leg (live_counts leg said) kind (land-refusal None refused)
 
     -- ---- ticks that pass
     module _ (k : ℕ) (well : IsWellSaid config (said ++ passes k ∷ [])) where
@@ -426,7 +427,7 @@ module _ (walk : AnsweredWalk) (steps : Bool) (config : Config) (said : List Say
             (λ m few. ap (λ l. slice_index_or l m []) same ∙ is.walks.windows m few) (omega (arith, low, ends));
       }
 
-      pub can-pass : (until : ℕ) → until ≡ (walking_counts walk.walk).ticks + k → CanPass walk steps config said k until
+      pub can-pass : (until : ℕ) → until ≡ (walking_counts walk.walk).ticks + k → CanPass walk asked config said k until
       can-pass until ends = record { is = is; well = well; ends = ends ∙ ap (λ n. n + k) now-ticks }
 
       pub pass-total : (leg : Leg) (until : ℕ) (now : Walking) → until ≡ (live_of config said).passed + k →
@@ -439,14 +440,14 @@ module _ (walk : AnsweredWalk) (steps : Bool) (config : Config) (said : List Say
 
       -- the text that is left at first is the whole
       pub pass-rest : (until : ℕ) → until ≡ (live_of config said).passed + k →
-          rest_text steps (leg_said config (said ++ passes k ∷ [])) until
+          rest_text asked (leg_said config (said ++ passes k ∷ [])) until
           (live_counts (leg_said config (said ++ passes k ∷ [])) said)
-          ≡ rounds_text steps config said k
+          ≡ rounds_text asked config said k
       pass-rest until ends =
           let leg : Leg = leg_said config (said ++ passes k ∷ []) in
           let ticks = leg-ticks config said leg is.well (leg-less config said (passes k ∷ []) leg well pass-own) in
           let e : until ≡ (live_counts leg said).ticks + k = omega (arith, ends, ticks) in
-          ap (λ n. rest_text steps leg n (live_counts leg said)) e
+          ap (λ n. rest_text asked leg n (live_counts leg said)) e
 
       -- when they have passed
       pub pass-walks : (until : ℕ) (now : Walking) → until ≡ (live_of config said).passed + k →
@@ -468,42 +469,42 @@ module _ (walk : AnsweredWalk) (steps : Bool) (config : Config) (said : List Say
           ∙ sym (ap (λ (l : Live). windows_by config.ticks (course_at l m)) (live-one config said (passes k))))
 
       pub pass-answered : (now : AnsweredWalk) → IsOtherwise walk now → WalksAs config (said ++ passes k ∷ []) now.walk →
-          IsAnswered now steps config (said ++ passes k ∷ [])
+          IsAnswered now asked config (said ++ passes k ∷ [])
       pass-answered now same walks = record {
         network = is.network;
         well = well;
         walks = walks;
         lines = same.lines ∙ is.lines;
         items = same.items ∙ is.items ∙ sym (ap (λ (l : Live). length l.items) (live-one config said (passes k)));
-        steps = same.steps ∙ is.steps;
+        tells = same.tells ∙ is.tells;
       }
 
       pub pass-answer : (until : ℕ) → until ≡ (live_of config said).passed + k →
-          rounds_text steps config said k ++ now_text until ≡ answer_to steps config said (passes k)
+          rounds_text asked config said k ++ now_text until ≡ answer_to asked config said (passes k)
       pass-answer until ends =
           let leg : Leg = leg_said config (said ++ passes k ∷ []) in
           let less = leg-less config said (passes k ∷ []) leg well pass-own in
           let ticks = leg-ticks config said leg is.well less in
           let more = pass-made config leg less.sound said k well pass-own.agrees in
           let said_ticks = ap (λ s. s.ticks) (counts-one leg said (passes k)) in
-          pass-text steps leg (live_counts leg said) k until (omega (arith, ends, ticks, more, said_ticks))
-          ∙ sym (ap (answers_text (step_line steps leg)) (answer-one leg said (passes k)))
+          pass-text asked leg (live_counts leg said) k until (omega (arith, ends, ticks, more, said_ticks))
+          ∙ sym (ap (answers_text (step_line asked leg)) (answer-one leg said (passes k)))
 
 -- ---- What a walk answers to what a line says, by what it answers to one saying.
 -- nothing is answered where nothing is said, or a line is cut or mended
-pub none_answered : (steps : Bool) (leg : Leg) (said : List Saying) → answered_since steps leg said [] ≡ []
+pub none_answered : (asked : Asked) (leg : Leg) (said : List Saying) → answered_since asked leg said [] ≡ []
 unfolding live_answers_from
-none_answered steps leg said = refl
+none_answered asked leg said = refl
 
-pub cut_answered : (steps : Bool) (leg : Leg) (said : List Saying) (m : ℕ) →
-    answered_since steps leg said (cuts m ∷ []) ≡ []
+pub cut_answered : (asked : Asked) (leg : Leg) (said : List Saying) (m : ℕ) →
+    answered_since asked leg said (cuts m ∷ []) ≡ []
 unfolding live_answers_from
-cut_answered steps leg said m = refl
+cut_answered asked leg said m = refl
 
-pub mend_answered : (steps : Bool) (leg : Leg) (said : List Saying) (m : ℕ) →
-    answered_since steps leg said (mends m ∷ []) ≡ []
+pub mend_answered : (asked : Asked) (leg : Leg) (said : List Saying) (m : ℕ) →
+    answered_since asked leg said (mends m ∷ []) ≡ []
 unfolding live_answers_from
-mend_answered steps leg said m = refl
+mend_answered asked leg said m = refl
 
 pub well_as : (config : Config) (said more other : List Saying) → more ≡ other → IsWellSaid config (said ++ more) →
     IsWellSaid config (said ++ other)
@@ -513,47 +514,47 @@ module _ {K : Type 0} (written : K → Option (List ℕ)) (faults : K → ℕ) w
   -- one saying
   pub one_more : (old new : K) (waited waits : List ℕ) (was now : AnsweredWalk) (more : List Saying) (saying : Saying)
       (result : Result (Unit {0}) Failed) → more ≡ saying ∷ [] →
-      ((steps : Bool) (config : Config) (said : List Saying) → IsAnswered was steps config said →
+      ((asked : Asked) (config : Config) (said : List Saying) → IsAnswered was asked config said →
       IsWellSaid config (said ++ saying ∷ []) →
-      OnOk result (Answers written faults old new waited waits now steps config said saying)) →
-      (steps : Bool) (config : Config) (said : List Saying) → IsAnswered was steps config said →
+      OnOk result (Answers written faults old new waited waits now asked config said saying)) →
+      (asked : Asked) (config : Config) (said : List Saying) → IsAnswered was asked config said →
       IsWellSaid config (said ++ more) →
-      OnOk result (AnswersMore written faults old new waited waits now steps config said more)
-  one_more old new waited waits was now more saying (Err failed) same answers steps config said is well = tt
-  one_more old new waited waits was now more saying (Ok done) same answers steps config said is well =
-      let own = answers steps config said is (well_as config said more (saying ∷ []) same well) in
-      subst (AnswersMore written faults old new waited waits now steps config said) (sym same)
+      OnOk result (AnswersMore written faults old new waited waits now asked config said more)
+  one_more old new waited waits was now more saying (Err failed) same answers asked config said is well = tt
+  one_more old new waited waits was now more saying (Ok done) same answers asked config said is well =
+      let own = answers asked config said is (well_as config said more (saying ∷ []) same well) in
+      subst (AnswersMore written faults old new waited waits now asked config said) (sym same)
       (record { is = own.is; holds = own.holds })
 
   pub one_part : (old new : K) (waited : List ℕ) (was : AnsweredWalk) (more : List Saying) (saying : Saying)
       (result : Result (Unit {0}) Failed) → more ≡ saying ∷ [] →
-      ((steps : Bool) (config : Config) (said : List Saying) → IsAnswered was steps config said →
+      ((asked : Asked) (config : Config) (said : List Saying) → IsAnswered was asked config said →
       IsWellSaid config (said ++ saying ∷ []) →
-      OnErr result (AnswersPart written faults old new waited steps config said saying)) →
-      (steps : Bool) (config : Config) (said : List Saying) → IsAnswered was steps config said →
+      OnErr result (AnswersPart written faults old new waited asked config said saying)) →
+      (asked : Asked) (config : Config) (said : List Saying) → IsAnswered was asked config said →
       IsWellSaid config (said ++ more) →
       OnErr result (AppendsPart written faults old new
-      (waited ++ answered_since steps (leg_said config (said ++ more)) said more))
-  one_part old new waited was more saying result same part steps config said is well =
+      (waited ++ answered_since asked (leg_said config (said ++ more)) said more))
+  one_part old new waited was more saying result same part asked config said is well =
       subst (λ (l : List Saying). OnErr result (AppendsPart written faults old new
-      (waited ++ answered_since steps (leg_said config (said ++ l)) said l))) (sym same)
-      (part steps config said is (well_as config said more (saying ∷ []) same well))
+      (waited ++ answered_since asked (leg_said config (said ++ l)) said l))) (sym same)
+      (part asked config said is (well_as config said more (saying ∷ []) same well))
 
   -- nothing is answered
-  pub quiet_more : (sink : K) (waiting : List ℕ) (now : AnsweredWalk) (steps : Bool) (config : Config)
-      (said more : List Saying) (saying : List Saying) → more ≡ saying → IsAnswered now steps config (said ++ saying) →
-      answered_since steps (leg_said config (said ++ saying)) said saying ≡ [] →
-      AnswersMore written faults sink sink waiting waiting now steps config said more
-  quiet_more sink waiting now steps config said more saying same is quiet =
-      subst (AnswersMore written faults sink sink waiting waiting now steps config said) (sym same)
+  pub quiet_more : (sink : K) (waiting : List ℕ) (now : AnsweredWalk) (asked : Asked) (config : Config)
+      (said more : List Saying) (saying : List Saying) → more ≡ saying → IsAnswered now asked config (said ++ saying) →
+      answered_since asked (leg_said config (said ++ saying)) said saying ≡ [] →
+      AnswersMore written faults sink sink waiting waiting now asked config said more
+  quiet_more sink waiting now asked config said more saying same is quiet =
+      subst (AnswersMore written faults sink sink waiting waiting now asked config said) (sym same)
       (record {
         is = is;
         holds = Holds-waits written faults sink waiting
-            (waiting ++ answered_since steps (leg_said config (said ++ saying)) said saying)
+            (waiting ++ answered_since asked (leg_said config (said ++ saying)) said saying)
             (sym (ap (λ (t : List ℕ). waiting ++ t) quiet ∙ append-nil waiting));
       })
 
 -- and nothing was said
-pub still_answered : (now : AnsweredWalk) (steps : Bool) (config : Config) (said : List Saying) →
-    IsAnswered now steps config said → IsAnswered now steps config (said ++ [])
-still_answered now steps config said is = subst (IsAnswered now steps config) (sym (append-nil said)) is
+pub still_answered : (now : AnsweredWalk) (asked : Asked) (config : Config) (said : List Saying) →
+    IsAnswered now asked config said → IsAnswered now asked config (said ++ [])
+still_answered now asked config said is = subst (IsAnswered now asked config) (sym (append-nil said)) is

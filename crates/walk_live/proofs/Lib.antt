@@ -4,3 +4,4 @@ pub mod LiveTalkerReplyLaws
 pub mod PassRoundsLaws
 pub mod SaidItemAndFailureLaws
 pub mod TimedLineWritingLaws
+pub mod ToldStepLaws

@@ -48,6 +48,7 @@ use Rattle.walk_live.proofs.AnsweredWalkAndSayingLaws.{none_answered}
 use Rattle.text_scripts.specs.declared.script_read.script_fault.ScriptFault.TheVariants as script
 use Rattle.command_parts.specs.declared.stop_and_status.Stop.TheVariants as stop
 use Rattle.text_live.specs.declared.live_line.LiveLine.TheVariants as spoken
+use Rattle.walk_live.specs.declared.asked.Asked.{Asked}
 
 -- ---- What is replied to a line by its fault, and why a conversation stops there.
 -- ---- before the first live line
@@ -164,69 +165,70 @@ memory_before heard reply fault own is of none = short_before heard reply own (o
 
 -- ---- How it stands with a conversation, by what was read and what the walk has answered.
 -- ---- its walk
-pub nothing_answered : (walk : Option AnsweredWalk) (steps : Bool) (config : Config) (said : List Saying)
-    (text : List ℕ) (live : Option Live) → HasWalk walk steps config said text live → live ≡ None → text ≡ []
-nothing_answered walk steps config said text None has none = has.1
-nothing_answered walk steps config said text (Some live) has none = absurd cc
+pub nothing_answered : (walk : Option AnsweredWalk) (asked : Asked) (config : Config) (said : List Saying)
+    (text : List ℕ) (live : Option Live) → HasWalk walk asked config said text live → live ≡ None → text ≡ []
+nothing_answered walk asked config said text None has none = has.1
+nothing_answered walk asked config said text (Some live) has none = absurd cc
 
-pub no_walk : (walk : Option AnsweredWalk) (steps : Bool) (config : Config) (said : List Saying)
-    (text : List ℕ) (live : Option Live) → HasWalk walk steps config said text live → walk ≡ None →
+pub no_walk : (walk : Option AnsweredWalk) (asked : Asked) (config : Config) (said : List Saying)
+    (text : List ℕ) (live : Option Live) → HasWalk walk asked config said text live → walk ≡ None →
     (live ≡ None) × (text ≡ [])
-no_walk walk steps config said text None has none = (refl, has.1)
-no_walk walk steps config said text (Some live) has none =
-    absurd (subst (λ (w : Option AnsweredWalk). HasAnswered w steps config said) none has)
+no_walk walk asked config said text None has none = (refl, has.1)
+no_walk walk asked config said text (Some live) has none =
+    absurd (subst (λ (w : Option AnsweredWalk). HasAnswered w asked config said) none has)
 
-pub can_answer : (walk : Option AnsweredWalk) (waiting : Option Config) (steps : Bool) (config : Config)
-    (said : List Saying) (text : List ℕ) (live : Option Live) → HasWalk walk steps config said text live →
-    (live ≡ None → waiting ≡ Some config) → (live ≡ None → said ≡ []) → CanAnswer walk waiting steps config said
-can_answer None waiting steps config said text None has waits none = (waits refl, none refl)
-can_answer None waiting steps config said text (Some live) has waits none = absurd has
-can_answer (Some walk) waiting steps config said text None has waits none = absurd cc
-can_answer (Some walk) waiting steps config said text (Some live) has waits none = has
+pub can_answer : (walk : Option AnsweredWalk) (waiting : Option Config) (asked : Asked) (config : Config)
+    (said : List Saying) (text : List ℕ) (live : Option Live) → HasWalk walk asked config said text live →
+    (live ≡ None → waiting ≡ Some config) → (live ≡ None → said ≡ []) → CanAnswer walk waiting asked config said
+can_answer None waiting asked config said text None has waits none = (waits refl, none refl)
+can_answer None waiting asked config said text (Some live) has waits none = absurd has
+can_answer (Some walk) waiting asked config said text None has waits none = absurd cc
+can_answer (Some walk) waiting asked config said text (Some live) has waits none = has
 
 pub none_said : (s : Said) (said : List Saying) (live : Option Live) → AgreesWith s said live → live ≡ None → said ≡ []
 none_said s said None agrees none = agrees
 none_said s said (Some live) agrees none = absurd cc
 
 -- ---- behind one more line
-other_config : (walk : Option AnsweredWalk) (steps : Bool) (config other : Config) (said : List Saying)
-    (text : List ℕ) (live : Option Live) → HasWalk walk steps config said text live → live ≡ None →
-    HasWalk walk steps other said text live
-other_config walk steps config other said text None has none = has
-other_config walk steps config other said text (Some live) has none = absurd cc
+other_config : (walk : Option AnsweredWalk) (asked : Asked) (config other : Config) (said : List Saying)
+    (text : List ℕ) (live : Option Live) → HasWalk walk asked config said text live → live ≡ None →
+    HasWalk walk asked other said text live
+other_config walk asked config other said text None has none = has
+other_config walk asked config other said text (Some live) has none = absurd cc
 
-abbrev pub WalkAfter : Option AnsweredWalk → Bool → Said → List (List ℕ) → List Saying → List ℕ → Told → Type 0
-WalkAfter walk steps s ws said text t =
-    HasWalk walk steps (said_with s ws t).settings.config said text (said_with s ws t).live
+abbrev pub WalkAfter : Option AnsweredWalk → Asked → ℕ → Said → List (List ℕ) → List Saying → List ℕ → Told → Type 0
+WalkAfter walk asked n s ws said text t =
+    HasWalk walk asked (said_with n s ws t).settings.config said text (said_with n s ws t).live
 
-pub blank_walk : (walk : Option AnsweredWalk) (steps : Bool) (s : Said) (ws : List (List ℕ)) (said : List Saying)
-    (text : List ℕ) → nothing ≡ told ws → HasWalk walk steps s.settings.config said text s.live →
-    WalkAfter walk steps s ws said text (told ws)
-blank_walk walk steps s ws said text is has = subst (WalkAfter walk steps s ws said text) is has
+pub blank_walk : (walk : Option AnsweredWalk) (asked : Asked) (n : ℕ) (s : Said) (ws : List (List ℕ)) (said : List Saying)
+    (text : List ℕ) → nothing ≡ told ws → HasWalk walk asked s.settings.config said text s.live →
+    WalkAfter walk asked n s ws said text (told ws)
+blank_walk walk asked n s ws said text is has = subst (WalkAfter walk asked n s ws said text) is has
 
-pub setting_walk : (walk : Option AnsweredWalk) (steps : Bool) (s : Said) (ws : List (List ℕ)) (said : List Saying)
-    (text : List ℕ) → setting ≡ told ws → line_fault s ws ≡ None → HasWalk walk steps s.settings.config said text s.live →
-    WalkAfter walk steps s ws said text (told ws)
-setting_walk walk steps s ws said text is fine has =
-    subst (WalkAfter walk steps s ws said text) is
-    (other_config walk steps s.settings.config (after s.settings (words_said ws)).config said text s.live has
+pub setting_walk : (walk : Option AnsweredWalk) (asked : Asked) (n : ℕ) (s : Said) (ws : List (List ℕ)) (said : List Saying)
+    (text : List ℕ) → setting ≡ told ws → line_fault s ws ≡ None → HasWalk walk asked s.settings.config said text s.live →
+    WalkAfter walk asked n s ws said text (told ws)
+setting_walk walk asked n s ws said text is fine has =
+    subst (WalkAfter walk asked n s ws said text) is
+    (other_config walk asked s.settings.config (after n s.settings (words_said ws)).config said text s.live has
     (setting_none s ws (sym is) fine))
 
-pub happens_walk : (walk : Option AnsweredWalk) (steps : Bool) (s : Said) (ws : List (List ℕ)) (said : List Saying)
-    (text : List ℕ) (saying : Saying) → happens saying ≡ told ws → HasAnswered walk steps s.settings.config said →
-    WalkAfter walk steps s ws said text (told ws)
-happens_walk walk steps s ws said text saying is has = subst (WalkAfter walk steps s ws said text) is has
+pub happens_walk : (walk : Option AnsweredWalk) (asked : Asked) (n : ℕ) (s : Said) (ws : List (List ℕ)) (said : List Saying)
+    (text : List ℕ) (saying : Saying) → happens saying ≡ told ws → HasAnswered walk asked s.settings.config said →
+    WalkAfter walk asked n s ws said text (told ws)
+happens_walk walk asked n s ws said text saying is has = subst (WalkAfter walk asked n s ws said text) is has
 
 pub has_read : (talker : LiveTalker) (heard : Heard) (line : List ℕ) (says : LiveLine) →
-    heard.dialogue ≡ live_dialogue talker.steps → AreFine nothing_said heard.lines →
+    heard.dialogue ≡ live_dialogue talker.tells → AreFine nothing_said heard.lines →
     length heard.lines + 1 ≤ longest_input → line_fault (said_in heard.lines) (words line) ≡ None →
     told_line (frame_of talker.reader) says ≡ told (words line) → IsLiveReader talker.reader →
-    IsAt talker.reader (length heard.lines + 1 + 1) (line_after (said_in heard.lines) (words line)) →
-    WalkAfter talker.walk talker.steps (said_in heard.lines) (words line) (sayings heard.lines) heard.said
-    (told (words line)) → HasReadLine talker heard line says
+    IsAt talker.reader (length heard.lines + 1 + 1)
+    (line_after (length heard.lines + 1) (said_in heard.lines) (words line)) →
+    WalkAfter talker.walk talker.tells (length heard.lines + 1) (said_in heard.lines) (words line)
+    (sayings heard.lines) heard.said (told (words line)) → HasReadLine talker heard line says
 has_read talker heard line says dialogue earlier few fine is reader at walk =
     let P : Said → Type 0 =
-    λ (s : Said). HasWalk talker.walk talker.steps s.settings.config (sayings heard.lines) heard.said s.live in
+    λ (s : Said). HasWalk talker.walk talker.tells s.settings.config (sayings heard.lines) heard.said s.live in
     record {
       dialogue = dialogue;
       earlier = earlier;
@@ -251,7 +253,7 @@ few_read : (talker : LiveTalker) (heard : Heard) → IsTalking talker heard → 
 few_read talker heard is room = omega (arith, is.at.number, room)
 
 abbrev pub reads_on : LiveTalker → LiveReader → Option AnsweredWalk → LiveTalker
-reads_on talker reader walk = record { steps = talker.steps; reader = reader; walk = walk }
+reads_on talker reader walk = record { tells = talker.tells; reader = reader; walk = walk }
 
 -- one that says nothing
 pub blank_read : (talker : LiveTalker) (reader : LiveReader) (heard : Heard) (line : List ℕ) (says : LiveLine) →
@@ -262,9 +264,9 @@ blank_read talker reader heard line says is room made read kind =
     let s : Said = said_in heard.lines in
     has_read (reads_on talker reader talker.walk) heard line says is.dialogue is.fine (few_read talker heard is room)
     read.fine read.told made read.at (elim kind [
-      | inl blank ↦ blank_walk talker.walk talker.steps s (words line) (sayings heard.lines) heard.said
+      | inl blank ↦ blank_walk talker.walk talker.tells (length heard.lines + 1) s (words line) (sayings heard.lines) heard.said
           (sym (ap (told_line (frame_of reader)) blank) ∙ read.told) is.walk
-      | inr set ↦ setting_walk talker.walk talker.steps s (words line) (sayings heard.lines) heard.said
+      | inr set ↦ setting_walk talker.walk talker.tells (length heard.lines + 1) s (words line) (sayings heard.lines) heard.said
           (sym (ap (told_line (frame_of reader)) set) ∙ read.told) read.fine is.walk
     ])
 
@@ -284,20 +286,20 @@ happens_in frame (spoken.Cut n) blank set = record { saying = _; is = refl }
 happens_in frame (spoken.Mend n) blank set = record { saying = _; is = refl }
 happens_in frame (spoken.Pass n) blank set = record { saying = _; is = refl }
 
-live_now : (s : Said) (ws : List (List ℕ)) (saying : Saying) → told ws ≡ happens saying →
-    (line_after s ws).live ≡ Some (live_after (now_live s) saying)
-live_now s ws saying is = ap (λ (t : Told). (said_with s ws t).live) is
+live_now : (n : ℕ) (s : Said) (ws : List (List ℕ)) (saying : Saying) → told ws ≡ happens saying →
+    (line_after n s ws).live ≡ Some (live_after (now_live s) saying)
+live_now n s ws saying is = ap (λ (t : Told). (said_with n s ws t).live) is
 
 pub line_can : (talker : LiveTalker) (reader : LiveReader) (waiting : Option Config) (heard : Heard) (line : List ℕ)
     (says : LiveLine) → IsTalking talker heard →
     ReadsLine reader (length heard.lines + 1) (said_in heard.lines) (words line) says → Happens (frame_of reader) says →
     waiting ≡ waiting_config reader →
-    CanAnswer talker.walk waiting talker.steps (said_in heard.lines).settings.config (sayings heard.lines)
+    CanAnswer talker.walk waiting talker.tells (said_in heard.lines).settings.config (sayings heard.lines)
 line_can talker reader waiting heard line says is read own same =
     let s : Said = said_in heard.lines in
     let hands = read.opens (live_after (now_live s) own.saying)
-    (live_now s (words line) own.saying (sym read.told ∙ own.is)) in
-    can_answer talker.walk waiting talker.steps s.settings.config (sayings heard.lines) heard.said s.live is.walk
+    (live_now (length heard.lines + 1) s (words line) own.saying (sym read.told ∙ own.is)) in
+    can_answer talker.walk waiting talker.tells s.settings.config (sayings heard.lines) heard.said s.live is.walk
     (λ none. same ∙ hands none) (none_said s (sayings heard.lines) s.live (agrees_now talker heard is))
 
 pub live_read : (talker : LiveTalker) (reader later : LiveReader) (walk : Option AnsweredWalk) (heard : Heard)
@@ -305,24 +307,24 @@ pub live_read : (talker : LiveTalker) (reader later : LiveReader) (walk : Option
     ReadsLine reader (length heard.lines + 1) (said_in heard.lines) (words line) says → Happens (frame_of reader) says →
     frame_of later ≡ frame_of reader →
     ((n : ℕ) (s : Said) → IsAt reader n s → IsAt later n s) →
-    HasAnswered walk talker.steps (said_in heard.lines).settings.config (sayings heard.lines) →
+    HasAnswered walk talker.tells (said_in heard.lines).settings.config (sayings heard.lines) →
     HasReadLine (reads_on talker later walk) heard line says
 live_read talker reader later walk heard line says is room made read own frame at has =
     let s : Said = said_in heard.lines in
     has_read (reads_on talker later walk) heard line says is.dialogue is.fine (few_read talker heard is room) read.fine
     (ap (λ (f : List ℕ). told_line f says) frame ∙ read.told) made
-    (at (length heard.lines + 1 + 1) (line_after s (words line)) read.at)
-    (happens_walk walk talker.steps s (words line) (sayings heard.lines) heard.said own.saying
+    (at (length heard.lines + 1 + 1) (line_after (length heard.lines + 1) s (words line)) read.at)
+    (happens_walk walk talker.tells (length heard.lines + 1) s (words line) (sayings heard.lines) heard.said own.saying
     (sym own.is ∙ read.told) has)
 
 -- ---- replies
-pub reply_is : (heard : Heard) (line : List ℕ) (steps : Bool) → heard.dialogue ≡ live_dialogue steps →
-    reply_to heard line ≡ live_reply steps heard.lines line
-reply_is heard line steps is = ap (λ (d : Dialogue). d.reply heard.lines line) is
+pub reply_is : (heard : Heard) (line : List ℕ) (asked : Asked) → heard.dialogue ≡ live_dialogue asked →
+    reply_to heard line ≡ live_reply asked heard.lines line
+reply_is heard line asked is = ap (λ (d : Dialogue). d.reply heard.lines line) is
 
-pub last_is : (heard : Heard) (steps : Bool) → heard.dialogue ≡ live_dialogue steps →
+pub last_is : (heard : Heard) (asked : Asked) → heard.dialogue ≡ live_dialogue asked →
     last_reply heard ≡ live_last heard.lines
-last_is heard steps is = ap (λ (d : Dialogue). d.last heard.lines) is
+last_is heard asked is = ap (λ (d : Dialogue). d.last heard.lines) is
 
 pub line_stops : (talker : LiveTalker) (heard : Heard) (line : List ℕ) (fault : LiveFault) (own : Stop) →
     IsTalking talker heard → Stops (length heard.lines + 1) (said_in heard.lines) (words line) fault →
@@ -331,12 +333,12 @@ line_stops talker heard line fault own is stops of =
     let s : Said = said_in heard.lines in
     let quiet : s.live ≡ None → IsSilent heard = λ none. (
       none,
-      nothing_answered talker.walk talker.steps s.settings.config (sayings heard.lines) heard.said s.live is.walk none,
+      nothing_answered talker.walk talker.tells s.settings.config (sayings heard.lines) heard.said s.live is.walk none,
     ) in
     elim stops [
       | inl short ↦ memory_before heard (reply_to heard line) fault own short.0 of (quiet short.1)
       | inr told ↦ told_before heard (reply_to heard line) (length heard.lines + 1) (line_fault s (words line)) _ fault own
-          (reply_is heard line talker.steps is.dialogue) told of
+          (reply_is heard line talker.tells is.dialogue) told of
           (λ limits found. quiet (limits_none s (words line) limits found))
     ]
 
@@ -346,27 +348,27 @@ pub end_stops : (talker : LiveTalker) (heard : Heard) (fault : LiveFault) (own :
 end_stops talker heard fault own is told of =
     let s : Said = said_in heard.lines in
     told_before heard (last_reply heard) (length heard.lines + 1) (opening_fault s.live s.settings) _ fault own
-    (last_is heard talker.steps is.dialogue) told of
+    (last_is heard talker.tells is.dialogue) told of
     (λ limits found. let none = opening_none s.live s.settings (of_limits limits) found in (
       none,
-      nothing_answered talker.walk talker.steps s.settings.config (sayings heard.lines) heard.said s.live is.walk none,
+      nothing_answered talker.walk talker.tells s.settings.config (sayings heard.lines) heard.said s.live is.walk none,
     ))
 
 -- ---- what may be said to the walk
-pub record Answering (walk : AnsweredWalk) (steps : Bool) (s : Said) (said more : List Saying) : Type 0 where
-  pub is : IsAnswered walk steps s.settings.config said
+pub record Answering (walk : AnsweredWalk) (asked : Asked) (s : Said) (said more : List Saying) : Type 0 where
+  pub is : IsAnswered walk asked s.settings.config said
   pub well : IsWellSaid s.settings.config (said ++ more)
   pub leg : leg_said s.settings.config (said ++ more) ≡ leg_by s.settings.config (now_live s)
 
-answering_by : (own : Option AnsweredWalk) (walk : AnsweredWalk) (steps : Bool) (s : Said) (said more all : List Saying)
-    (text : List ℕ) (live : Option Live) → own ≡ Some walk → HasWalk own steps s.settings.config said text live →
-    s.live ≡ live → all ≡ said ++ more → AgreesWith s all live → Answering walk steps s said more
-answering_by own walk steps s said more all text None some has is same agrees =
+answering_by : (own : Option AnsweredWalk) (walk : AnsweredWalk) (asked : Asked) (s : Said) (said more all : List Saying)
+    (text : List ℕ) (live : Option Live) → own ≡ Some walk → HasWalk own asked s.settings.config said text live →
+    s.live ≡ live → all ≡ said ++ more → AgreesWith s all live → Answering walk asked s said more
+answering_by own walk asked s said more all text None some has is same agrees =
     absurd (let none : own ≡ None = has.0 in cc)
-answering_by own walk steps s said more all text (Some live) some has is same agrees =
+answering_by own walk asked s said more all text (Some live) some has is same agrees =
     let c : Config = s.settings.config in
     record {
-      is = subst (λ (w : Option AnsweredWalk). HasAnswered w steps c said) some has;
+      is = subst (λ (w : Option AnsweredWalk). HasAnswered w asked c said) some has;
       well = subst (IsWellSaid c) same agrees.1;
       leg = ap (leg_by c) (ap (live_of c) (sym same) ∙ sym agrees.2 ∙ sym (ap (λ (l : Option Live). live_or l c) is));
     }
@@ -378,49 +380,49 @@ more_said talker heard line says has =
 
 pub answering : (talker : LiveTalker) (heard : Heard) (line : List ℕ) (says : LiveLine) (walk : AnsweredWalk) →
     HasReadLine talker heard line says → talker.walk ≡ Some walk →
-    Answering walk talker.steps (said_in (heard.lines ++ line ∷ [])) (sayings heard.lines)
+    Answering walk talker.tells (said_in (heard.lines ++ line ∷ [])) (sayings heard.lines)
     (saying_of (told_line (frame_of talker.reader) says))
 answering talker heard line says walk has some =
     let ls : List (List ℕ) = heard.lines ++ line ∷ [] in
-    answering_by talker.walk walk talker.steps (said_in ls) (sayings heard.lines)
+    answering_by talker.walk walk talker.tells (said_in ls) (sayings heard.lines)
     (saying_of (told_line (frame_of talker.reader) says)) (sayings ls) heard.said (said_in ls).live some has.walk refl
     (more_said talker heard line says has)
     (lines_agree ls (more_fine heard.lines line has.earlier has.fine)
     (omega (arith, has.few, length-append heard.lines (line ∷ []))))
 
 -- ---- what it answered
-abbrev text_of : Bool → Heard → List ℕ → List ℕ
-text_of steps heard line =
-    answered_since steps (leg_in (heard.lines ++ line ∷ [])) (sayings heard.lines) (line_saying line)
+abbrev text_of : Asked → Heard → List ℕ → List ℕ
+text_of asked heard line =
+    answered_since asked (leg_in (heard.lines ++ line ∷ [])) (sayings heard.lines) (line_saying line)
 
 pub reply_text : (talker : LiveTalker) (heard : Heard) (line : List ℕ) (says : LiveLine) →
-    HasReadLine talker heard line says → reply_to heard line ≡ Ok (text_of talker.steps heard line)
+    HasReadLine talker heard line says → reply_to heard line ≡ Ok (text_of talker.tells heard line)
 reply_text talker heard line says has =
-    reply_is heard line talker.steps has.dialogue
-    ∙ ap (λ (f : Option LineWrong). reply_by (length heard.lines + 1) f (text_of talker.steps heard line)) has.fine
+    reply_is heard line talker.tells has.dialogue
+    ∙ ap (λ (f : Option LineWrong). reply_by (length heard.lines + 1) f (text_of talker.tells heard line)) has.fine
 
 more_text : (talker : LiveTalker) (heard : Heard) (line : List ℕ) (says : LiveLine) (walk : AnsweredWalk) →
     HasReadLine talker heard line says → talker.walk ≡ Some walk →
     (let more : List Saying = saying_of (told_line (frame_of talker.reader) says) in
     let c : Config = (said_in (heard.lines ++ line ∷ [])).settings.config in
-    answered_since talker.steps (leg_said c (sayings heard.lines ++ more)) (sayings heard.lines) more
-    ≡ text_of talker.steps heard line)
+    answered_since talker.tells (leg_said c (sayings heard.lines ++ more)) (sayings heard.lines) more
+    ≡ text_of talker.tells heard line)
 more_text talker heard line says walk has some =
     let more : List Saying = saying_of (told_line (frame_of talker.reader) says) in
-    ap (λ (leg : Leg). answered_since talker.steps leg (sayings heard.lines) more)
+    ap (λ (leg : Leg). answered_since talker.tells leg (sayings heard.lines) more)
     (answering talker heard line says walk has some).leg
-    ∙ ap (λ (t : Told). answered_since talker.steps (leg_in (heard.lines ++ line ∷ [])) (sayings heard.lines)
+    ∙ ap (λ (t : Told). answered_since talker.tells (leg_in (heard.lines ++ line ∷ [])) (sayings heard.lines)
     (saying_of t)) has.told
 
 abbrev pub walks_on : LiveTalker → AnsweredWalk → LiveTalker
 walks_on talker now = record talker { walk = Some now }
 
-has_more : (own : Option AnsweredWalk) (walk now : AnsweredWalk) (steps : Bool) (config : Config) (said all : List Saying)
-    (text later : List ℕ) (live : Option Live) → own ≡ Some walk → HasWalk own steps config said text live →
-    IsAnswered now steps config all → HasWalk (Some now) steps config all later live
-has_more own walk now steps config said all text later None some has is =
+has_more : (own : Option AnsweredWalk) (walk now : AnsweredWalk) (asked : Asked) (config : Config) (said all : List Saying)
+    (text later : List ℕ) (live : Option Live) → own ≡ Some walk → HasWalk own asked config said text live →
+    IsAnswered now asked config all → HasWalk (Some now) asked config all later live
+has_more own walk now asked config said all text later None some has is =
     absurd (let none : own ≡ None = has.0 in cc)
-has_more own walk now steps config said all text later (Some live) some has is = is
+has_more own walk now asked config said all text later (Some live) some has is = is
 
 one_later : (ls : List (List ℕ)) (line : List ℕ) → length ls + 1 + 1 ≡ length (ls ++ line ∷ []) + 1
 one_later ls line = omega (arith, length-append ls (line ∷ []))
@@ -428,7 +430,7 @@ one_later ls line = omega (arith, length-append ls (line ∷ []))
 pub talks_on : (talker : LiveTalker) (heard : Heard) (line text : List ℕ) (says : LiveLine) (walk now : AnsweredWalk) →
     HasReadLine talker heard line says → talker.walk ≡ Some walk →
     (let more : List Saying = saying_of (told_line (frame_of talker.reader) says) in
-    IsAnswered now talker.steps (said_in (heard.lines ++ line ∷ [])).settings.config (sayings heard.lines ++ more)) →
+    IsAnswered now talker.tells (said_in (heard.lines ++ line ∷ [])).settings.config (sayings heard.lines ++ more)) →
     IsTalking (walks_on talker now) (heard_more heard line text)
 talks_on talker heard line text says walk now has some is =
     let ls : List (List ℕ) = heard.lines ++ line ∷ [] in
@@ -437,50 +439,50 @@ talks_on talker heard line text says walk now has some is =
       fine = more_fine heard.lines line has.earlier has.fine;
       reader = has.reader;
       at = subst (λ (n : ℕ). IsAt talker.reader n (said_in ls)) (one_later heard.lines line) has.at;
-      walk = has_more talker.walk walk now talker.steps (said_in ls).settings.config (sayings heard.lines) (sayings ls)
+      walk = has_more talker.walk walk now talker.tells (said_in ls).settings.config (sayings heard.lines) (sayings ls)
           heard.said (heard.said ++ text) (said_in ls).live some has.walk
-          (subst (IsAnswered now talker.steps (said_in ls).settings.config) (sym (more_said talker heard line says has)) is);
+          (subst (IsAnswered now talker.tells (said_in ls).settings.config) (sym (more_said talker heard line says has)) is);
     }
 
 -- ---- where there is no walk nothing is answered
-none_told : (s : Said) (ws : List (List ℕ)) (t : Told) → (said_with s ws t).live ≡ None → saying_of t ≡ []
-none_told s ws nothing none = refl
-none_told s ws setting none = refl
-none_told s ws (happens saying) none = absurd cc
+none_told : (n : ℕ) (s : Said) (ws : List (List ℕ)) (t : Told) → (said_with n s ws t).live ≡ None → saying_of t ≡ []
+none_told n s ws nothing none = refl
+none_told n s ws setting none = refl
+none_told n s ws (happens saying) none = absurd cc
 
 live_none : (talker : LiveTalker) (heard : Heard) (line : List ℕ) (says : LiveLine) → HasReadLine talker heard line says →
     talker.walk ≡ None → ((said_in (heard.lines ++ line ∷ [])).live ≡ None) × (heard.said ≡ [])
 live_none talker heard line says has none =
     let ls : List (List ℕ) = heard.lines ++ line ∷ [] in
-    no_walk talker.walk talker.steps (said_in ls).settings.config (sayings heard.lines) heard.said (said_in ls).live
+    no_walk talker.walk talker.tells (said_in ls).settings.config (sayings heard.lines) heard.said (said_in ls).live
     has.walk none
 
 no_saying : (talker : LiveTalker) (heard : Heard) (line : List ℕ) (says : LiveLine) → HasReadLine talker heard line says →
     talker.walk ≡ None → line_saying line ≡ []
 no_saying talker heard line says has none =
-    none_told (said_in heard.lines) (words line) (told (words line))
+    none_told (length heard.lines + 1) (said_in heard.lines) (words line) (told (words line))
     (ap (λ (s : Said). s.live) (sym (said_next heard.lines line)) ∙ (live_none talker heard line says has none).0)
 
 no_text : (talker : LiveTalker) (heard : Heard) (line : List ℕ) (says : LiveLine) → HasReadLine talker heard line says →
-    talker.walk ≡ None → text_of talker.steps heard line ≡ []
+    talker.walk ≡ None → text_of talker.tells heard line ≡ []
 no_text talker heard line says has none =
     let leg : Leg = leg_in (heard.lines ++ line ∷ []) in
-    ap (answered_since talker.steps leg (sayings heard.lines)) (no_saying talker heard line says has none)
-    ∙ none_answered talker.steps leg (sayings heard.lines)
+    ap (answered_since talker.tells leg (sayings heard.lines)) (no_saying talker heard line says has none)
+    ∙ none_answered talker.tells leg (sayings heard.lines)
 
-silent : (own : Option AnsweredWalk) (steps : Bool) (config : Config) (said all : List Saying) (text later : List ℕ)
-    (live : Option Live) → own ≡ None → HasWalk own steps config said text live → later ≡ [] →
-    HasWalk own steps config all later live
-silent own steps config said all text later None none has is = (none, is)
-silent own steps config said all text later (Some live) none has is =
-    absurd (subst (λ (w : Option AnsweredWalk). HasAnswered w steps config said) none has)
+silent : (own : Option AnsweredWalk) (asked : Asked) (config : Config) (said all : List Saying) (text later : List ℕ)
+    (live : Option Live) → own ≡ None → HasWalk own asked config said text live → later ≡ [] →
+    HasWalk own asked config all later live
+silent own asked config said all text later None none has is = (none, is)
+silent own asked config said all text later (Some live) none has is =
+    absurd (subst (λ (w : Option AnsweredWalk). HasAnswered w asked config said) none has)
 
 pub talks_still : (talker : LiveTalker) (heard : Heard) (line text : List ℕ) (says : LiveLine) →
     HasReadLine talker heard line says → talker.walk ≡ None → reply_to heard line ≡ Ok text →
     IsTalking talker (heard_more heard line text)
 talks_still talker heard line text says has none is =
     let ls : List (List ℕ) = heard.lines ++ line ∷ [] in
-    let same : text ≡ text_of talker.steps heard line =
+    let same : text ≡ text_of talker.tells heard line =
     (let own = reply_text talker heard line says has in cc) in
     let nothing : text ≡ [] = same ∙ no_text talker heard line says has none in
     record {
@@ -488,7 +490,7 @@ talks_still talker heard line text says has none is =
       fine = more_fine heard.lines line has.earlier has.fine;
       reader = has.reader;
       at = subst (λ (n : ℕ). IsAt talker.reader n (said_in ls)) (one_later heard.lines line) has.at;
-      walk = silent talker.walk talker.steps (said_in ls).settings.config (sayings heard.lines) (sayings ls) heard.said
+      walk = silent talker.walk talker.tells (said_in ls).settings.config (sayings heard.lines) (sayings ls) heard.said
           (heard.said ++ text) (said_in ls).live none has.walk
           (ap (λ (t : List ℕ). t ++ text) (live_none talker heard line says has none).1 ∙ nothing);
     }
@@ -498,29 +500,29 @@ module _ {K : Type 0} (written : K → Option (List ℕ)) (faults : K → ℕ) w
   abbrev pub SayOk : K → K → List ℕ → List ℕ → AnsweredWalk → AnsweredWalk → LiveLine → Result (Unit {0}) Failed → List ℕ →
       Type 0
   SayOk old new waited waits walk now says result frame =
-      (steps : Bool) (config : Config) (said : List Saying) → IsAnswered walk steps config said →
+      (asked : Asked) (config : Config) (said : List Saying) → IsAnswered walk asked config said →
       IsWellSaid config (said ++ saying_of (told_line frame says)) →
-      OnOk result (AnswersMore written faults old new waited waits now steps config said
+      OnOk result (AnswersMore written faults old new waited waits now asked config said
       (saying_of (told_line frame says)))
 
   abbrev pub SayPart : K → K → List ℕ → AnsweredWalk → LiveLine → Result (Unit {0}) Failed → List ℕ → Type 0
   SayPart old new waited walk says result frame =
-      (steps : Bool) (config : Config) (said : List Saying) → IsAnswered walk steps config said →
+      (asked : Asked) (config : Config) (said : List Saying) → IsAnswered walk asked config said →
       IsWellSaid config (said ++ saying_of (told_line frame says)) →
       (let more : List Saying = saying_of (told_line frame says) in
       OnErr result (AppendsPart written faults old new
-      (waited ++ answered_since steps (leg_said config (said ++ more)) said more)))
+      (waited ++ answered_since asked (leg_said config (said ++ more)) said more)))
 
   replied_more : (old new : K) (waited waits : List ℕ) (talker : LiveTalker) (heard : Heard) (line : List ℕ)
       (says : LiveLine) (walk now : AnsweredWalk) → HasReadLine talker heard line says → talker.walk ≡ Some walk →
-      AnswersMore written faults old new waited waits now talker.steps
+      AnswersMore written faults old new waited waits now talker.tells
       (said_in (heard.lines ++ line ∷ [])).settings.config (sayings heard.lines)
       (saying_of (told_line (frame_of talker.reader) says)) →
       HasReplied written faults old new waited waits (reply_to heard line)
   replied_more old new waited waits talker heard line says walk now has some answers =
       let P : List ℕ → Type 0 = λ (t : List ℕ). Holds written faults old new waits (waited ++ t) in
       record {
-        text = text_of talker.steps heard line;
+        text = text_of talker.tells heard line;
         is = reply_text talker heard line says has;
         holds = subst P (more_text talker heard line says walk has some) answers.holds;
       }
@@ -529,7 +531,7 @@ module _ {K : Type 0} (written : K → Option (List ℕ)) (faults : K → ℕ) w
       (says : LiveLine) → HasReadLine talker heard line says → talker.walk ≡ None →
       HasReplied written faults sink sink waiting waiting (reply_to heard line)
   replied_none sink waiting talker heard line says has none =
-      let text : List ℕ = text_of talker.steps heard line in
+      let text : List ℕ = text_of talker.tells heard line in
       record {
         text = text;
         is = reply_text talker heard line says has;
@@ -542,11 +544,11 @@ module _ {K : Type 0} (written : K → Option (List ℕ)) (faults : K → ℕ) w
       (let more : List Saying = saying_of (told_line (frame_of talker.reader) says) in
       let c : Config = (said_in (heard.lines ++ line ∷ [])).settings.config in
       AppendsPart written faults old new (waited
-      ++ answered_since talker.steps (leg_said c (sayings heard.lines ++ more)) (sayings heard.lines) more)) →
+      ++ answered_since talker.tells (leg_said c (sayings heard.lines ++ more)) (sayings heard.lines) more)) →
       (text : List ℕ) × (reply_to heard line ≡ Ok text) × AppendsPart written faults old new (waited ++ text)
   replied_part old new waited talker heard line says walk has some part =
       let P : List ℕ → Type 0 = λ (t : List ℕ). AppendsPart written faults old new (waited ++ t) in (
-        text_of talker.steps heard line,
+        text_of talker.tells heard line,
         reply_text talker heard line says has,
         subst P (more_text talker heard line says walk has some) part,
       )
@@ -559,7 +561,7 @@ module _ {K : Type 0} (written : K → Option (List ℕ)) (faults : K → ℕ) w
   walk_talks old new waited waits talker heard line text says walk now frame result has some same say =
       let own = answering talker heard line says walk has some in
       on_ok_weaker result (λ answers. talks_on talker heard line text says walk now has some answers.is)
-      (subst (SayOk old new waited waits walk now says result) same say talker.steps _ (sayings heard.lines) own.is own.well)
+      (subst (SayOk old new waited waits walk now says result) same say talker.tells _ (sayings heard.lines) own.is own.well)
 
   pub walk_replied : (old new : K) (waited waits : List ℕ) (talker : LiveTalker) (heard : Heard) (line : List ℕ)
       (says : LiveLine) (walk now : AnsweredWalk) (frame : List ℕ) (result : Result (Unit {0}) Failed) →
@@ -569,7 +571,7 @@ module _ {K : Type 0} (written : K → Option (List ℕ)) (faults : K → ℕ) w
   walk_replied old new waited waits talker heard line says walk now frame result has some same say =
       let own = answering talker heard line says walk has some in
       on_ok_weaker result (replied_more old new waited waits talker heard line says walk now has some)
-      (subst (SayOk old new waited waits walk now says result) same say talker.steps _ (sayings heard.lines) own.is own.well)
+      (subst (SayOk old new waited waits walk now says result) same say talker.tells _ (sayings heard.lines) own.is own.well)
 
   pub walk_part : (old new : K) (waited : List ℕ) (talker : LiveTalker) (heard : Heard) (line : List ℕ)
       (says : LiveLine) (walk : AnsweredWalk) (frame : List ℕ) (result : Result (Unit {0}) Failed) →
@@ -580,24 +582,24 @@ module _ {K : Type 0} (written : K → Option (List ℕ)) (faults : K → ℕ) w
   walk_part old new waited talker heard line says walk frame result has some same say =
       let own = answering talker heard line says walk has some in
       on_err_weaker result (replied_part old new waited talker heard line says walk has some)
-      (subst (SayPart old new waited walk says result) same say talker.steps _ (sayings heard.lines) own.is own.well)
+      (subst (SayPart old new waited walk says result) same say talker.tells _ (sayings heard.lines) own.is own.well)
 
 -- ---- the end of the text
 pub end_can : (talker : LiveTalker) (waiting : Option Config) (heard : Heard) → IsTalking talker heard →
     ((said_in heard.lines).live ≡ None → waiting ≡ Some (said_in heard.lines).settings.config) →
-    CanAnswer talker.walk waiting talker.steps (said_in heard.lines).settings.config (sayings heard.lines)
+    CanAnswer talker.walk waiting talker.tells (said_in heard.lines).settings.config (sayings heard.lines)
 end_can talker waiting heard is waits =
     let s : Said = said_in heard.lines in
-    can_answer talker.walk waiting talker.steps s.settings.config (sayings heard.lines) heard.said s.live is.walk waits
+    can_answer talker.walk waiting talker.tells s.settings.config (sayings heard.lines) heard.said s.live is.walk waits
     (none_said s (sayings heard.lines) s.live (agrees_now talker heard is))
 
-pub walk_there : (walk : Option AnsweredWalk) (own : AnsweredWalk) (steps : Bool) (config : Config) (said : List Saying) →
-    walk ≡ Some own → HasAnswered walk steps config said → IsAnswered own steps config said
-walk_there walk own steps config said some has = subst (λ (w : Option AnsweredWalk). HasAnswered w steps config said) some has
+pub walk_there : (walk : Option AnsweredWalk) (own : AnsweredWalk) (asked : Asked) (config : Config) (said : List Saying) →
+    walk ≡ Some own → HasAnswered walk asked config said → IsAnswered own asked config said
+walk_there walk own asked config said some has = subst (λ (w : Option AnsweredWalk). HasAnswered w asked config said) some has
 
-pub walk_missing : (walk : Option AnsweredWalk) (steps : Bool) (config : Config) (said : List Saying) →
-    walk ≡ None → HasAnswered walk steps config said → ⊥
-walk_missing walk steps config said none has = subst (λ (w : Option AnsweredWalk). HasAnswered w steps config said) none has
+pub walk_missing : (walk : Option AnsweredWalk) (asked : Asked) (config : Config) (said : List Saying) →
+    walk ≡ None → HasAnswered walk asked config said → ⊥
+walk_missing walk asked config said none has = subst (λ (w : Option AnsweredWalk). HasAnswered w asked config said) none has
 
 live_is : (s : Said) (said : List Saying) (live : Option Live) → s.live ≡ live → AgreesWith s said live →
     now_live s ≡ live_of s.settings.config said
@@ -609,7 +611,7 @@ live_is s said (Some live) is agrees =
     ap (λ (l : Option Live). live_or l s.settings.config) is ∙ agrees.2
 
 pub leg_of_all : (talker : LiveTalker) (heard : Heard) (walk : AnsweredWalk) → IsTalking talker heard →
-    IsAnswered walk talker.steps (said_in heard.lines).settings.config (sayings heard.lines) →
+    IsAnswered walk talker.tells (said_in heard.lines).settings.config (sayings heard.lines) →
     IsLegOf (said_in heard.lines).settings.config (sayings heard.lines) (leg_in heard.lines)
 leg_of_all talker heard walk is answered =
     let s : Said = said_in heard.lines in
@@ -627,7 +629,7 @@ pub totals_told : (talker : LiveTalker) (heard : Heard) (totals : Totals) → Is
     totals ≡ totals_of (leg_in heard.lines) (live_counts (leg_in heard.lines) (sayings heard.lines)) →
     last_reply heard ≡ Ok (total_text totals)
 totals_told talker heard totals is whole same =
-    last_is heard talker.steps is.dialogue
+    last_is heard talker.tells is.dialogue
     ∙ ap (λ (f : Option LineWrong). reply_by (length heard.lines + 1) f
     (total_text (totals_of (leg_in heard.lines) (live_counts (leg_in heard.lines) (sayings heard.lines))))) whole
     ∙ ap (λ (t : Totals). Ok (total_text t)) (sym same)

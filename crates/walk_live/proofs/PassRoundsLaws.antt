@@ -1,6 +1,6 @@
 -- The rounds of a pass: how many are left, the ticks they make, their text, and a bound on what a walk makes.
 use Rattle.std.proofs.Common.{◌≡◌, ℕ, ◌+◌, ◌-◌, ◌*◌, ◌^◌, ◌<◌, ◌≤◌, List, [], ◌∷◌, length, arith, zero, suc, refl}
-use Rattle.std.proofs.Common.{Bool, ◌++◌, map, Option, sym, ◌∙◌, ap, ap₂, subst, append-nil, append_assoc}
+use Rattle.std.proofs.Common.{◌++◌, map, Option, sym, ◌∙◌, ap, ap₂, subst, append-nil, append_assoc}
 use Rattle.std.proofs.lemmas.Nat.{mul-le}
 use Rattle.std.proofs.lemmas.List.{length-map}
 use Rattle.law_model.specs.Common.{Counts, IsSound, Leg, LinePath, bound, due_of, sum_delays, Plan, carries_from, run}
@@ -29,6 +29,7 @@ use Rattle.walk_live.specs.PassingRounds.{round_text, steps_text}
 use Rattle.walk_live.specs.LiveReplies.{step_line}
 use Rattle.walk_live.specs.TimedWriting.{timed_texts}
 use Rattle.walk_live.proofs.TimedLineWritingLaws.{holds-more, holds-none, part-longer, part-more}
+use Rattle.walk_live.specs.declared.asked.Asked.{Asked}
 
 -- ---- No walk of a sound leg makes more than a certain number of all.
 few-delays : (total slow fast slip : ℕ) (paths : List LinePath) → AllPaths (IsSoundPath total slow fast slip) paths →
@@ -90,22 +91,22 @@ rounds-last (suc n) plan s = rounds-last n plan (live_round plan s)
 abbrev pub turns : Leg → ℕ → Counts → ℕ
 turns leg until s = rounds_until (bound (walk_plan leg)) (walk_plan leg) until s
 
-abbrev pub rest_text : Bool → Leg → ℕ → Counts → List ℕ
-rest_text steps leg until s = answers_text (step_line steps leg) (rounds_answers (turns leg until s) leg s)
+abbrev pub rest_text : Asked → Leg → ℕ → Counts → List ℕ
+rest_text asked leg until s = answers_text (step_line asked leg) (rounds_answers (turns leg until s) leg s)
 
 abbrev pub pass_end : Leg → ℕ → Counts → Counts
 pass_end leg until s = after_rounds (turns leg until s) (walk_plan leg) s
 
 -- one is made
-rest-round : (steps : Bool) (leg : Leg) (until : ℕ) (s : Counts) →
+rest-round : (asked : Asked) (leg : Leg) (until : ℕ) (s : Counts) →
     turns leg until s ≡ suc (turns leg until (live_round (walk_plan leg) s)) →
-    rest_text steps leg until s
-    ≡ round_text steps leg s ++ rest_text steps leg until (live_round (walk_plan leg) s)
+    rest_text asked leg until s
+    ≡ round_text asked leg s ++ rest_text asked leg until (live_round (walk_plan leg) s)
 unfolding rounds_answers
-rest-round steps leg until s turn =
+rest-round asked leg until s turn =
     let next : Counts = live_round (walk_plan leg) s in
-    ap (λ n. answers_text (step_line steps leg) (rounds_answers n leg s)) turn
-    ∙ flat_map-append (answer_text (step_line steps leg)) (round_answers leg s next)
+    ap (λ n. answers_text (step_line asked leg) (rounds_answers n leg s)) turn
+    ∙ flat_map-append (answer_text (step_line asked leg)) (round_answers leg s next)
     (rounds_answers (turns leg until next) leg next)
 
 end-round : (leg : Leg) (until : ℕ) (s : Counts) →
@@ -115,10 +116,10 @@ unfolding after_rounds
 end-round leg until s turn = ap (λ n. after_rounds n (walk_plan leg) s) turn
 
 -- none is left
-rest-over : (steps : Bool) (leg : Leg) (until : ℕ) (s : Counts) → until ≤ s.ticks → rest_text steps leg until s ≡ []
+rest-over : (asked : Asked) (leg : Leg) (until : ℕ) (s : Counts) → until ≤ s.ticks → rest_text asked leg until s ≡ []
 unfolding rounds_answers
-rest-over steps leg until s over =
-    ap (λ n. answers_text (step_line steps leg) (rounds_answers n leg s))
+rest-over asked leg until s over =
+    ap (λ n. answers_text (step_line asked leg) (rounds_answers n leg s))
     (rounds-over (bound (walk_plan leg)) (walk_plan leg) until s over)
 
 end-over : (leg : Leg) (until : ℕ) (s : Counts) → until ≤ s.ticks → pass_end leg until s ≡ s
@@ -135,10 +136,10 @@ pub record PassesIn (leg : Leg) (start : Counts) (until : ℕ) (walk : Walking) 
 
 -- and what is told
 pub record TellsIn {K : Type 0} (written : K → Option (List ℕ)) (faults : K → ℕ) (old new : K) (waited waits : List ℕ)
-    (steps : Bool) (leg : Leg) (start : Counts) (until : ℕ) (s : Counts) : Type 0 where
+    (asked : Asked) (leg : Leg) (start : Counts) (until : ℕ) (s : Counts) : Type 0 where
   pub told : List ℕ
   pub holds : Holds written faults old new waits (waited ++ told)
-  pub left : told ++ rest_text steps leg until s ≡ rest_text steps leg until start
+  pub left : told ++ rest_text asked leg until s ≡ rest_text asked leg until start
 
 pub passes-begin : (leg : Leg) (start : Counts) (until : ℕ) (walk : Walking) → LiveStands leg walk →
     walking_counts walk ≡ start → PassesIn leg start until walk
@@ -151,12 +152,12 @@ passes-begin leg start until walk stands same = record {
 }
 
 pub tells-begin : {K : Type 0} (written : K → Option (List ℕ)) (faults : K → ℕ) (sink : K) (waits : List ℕ)
-    (steps : Bool) (leg : Leg) (start : Counts) (until : ℕ) (s : Counts) → s ≡ start →
-    TellsIn written faults sink sink waits waits steps leg start until s
-tells-begin written faults sink waits steps leg start until s same = record {
+    (asked : Asked) (leg : Leg) (start : Counts) (until : ℕ) (s : Counts) → s ≡ start →
+    TellsIn written faults sink sink waits waits asked leg start until s
+tells-begin written faults sink waits asked leg start until s same = record {
   told = [];
   holds = holds-none written faults sink waits [] refl;
-  left = ap (rest_text steps leg until) same;
+  left = ap (rest_text asked leg until) same;
 }
 
 -- in a leg that agrees with the pass
@@ -213,49 +214,49 @@ module _ (config : Config) (said : List Saying) (k : ℕ) (leg : Leg) (well : Is
     passes-over walk passing over = sym (end-over leg until (walking_counts walk) over) ∙ passing.left
 
     -- ---- what is told
-    module _ {K : Type 0} (written : K → Option (List ℕ)) (faults : K → ℕ) (steps : Bool) where
+    module _ {K : Type 0} (written : K → Option (List ℕ)) (faults : K → ℕ) (asked : Asked) where
       pub tells-on : (old was now : K) (waited waits after : List ℕ) (walk next : Walking) →
           PassesIn leg start until walk → (walking_counts walk).ticks < until → LiveRounds leg walk next →
-          TellsIn written faults old was waited waits steps leg start until (walking_counts walk) →
-          Holds written faults was now after (waits ++ round_text steps leg (walking_counts walk)) →
-          TellsIn written faults old now waited after steps leg start until (walking_counts next)
+          TellsIn written faults old was waited waits asked leg start until (walking_counts walk) →
+          Holds written faults was now after (waits ++ round_text asked leg (walking_counts walk)) →
+          TellsIn written faults old now waited after asked leg start until (walking_counts next)
       tells-on old was now waited waits after walk next passing low makes tells more =
           let s : Counts = walking_counts walk in
           record {
-            told = tells.told ++ round_text steps leg s;
-            holds = holds-more written faults old was now waited waits after tells.told (round_text steps leg s)
+            told = tells.told ++ round_text asked leg s;
+            holds = holds-more written faults old was now waited waits after tells.told (round_text asked leg s)
                 tells.holds more;
-            left = ap (λ c. (tells.told ++ round_text steps leg s) ++ rest_text steps leg until c) makes.counts
-                ∙ append_assoc tells.told (round_text steps leg s)
-                (rest_text steps leg until (live_round (walk_plan leg) s))
-                ∙ ap (λ l. tells.told ++ l) (sym (rest-round steps leg until s
+            left = ap (λ c. (tells.told ++ round_text asked leg s) ++ rest_text asked leg until c) makes.counts
+                ∙ append_assoc tells.told (round_text asked leg s)
+                (rest_text asked leg until (live_round (walk_plan leg) s))
+                ∙ ap (λ l. tells.told ++ l) (sym (rest-round asked leg until s
                 (turn-at s passing.rounds passing.are low)))
                 ∙ tells.left;
           }
 
       pub tells-part : (old was now : K) (waited waits : List ℕ) (walk : Walking) →
           PassesIn leg start until walk → (walking_counts walk).ticks < until →
-          TellsIn written faults old was waited waits steps leg start until (walking_counts walk) →
-          AppendsPart written faults was now (waits ++ round_text steps leg (walking_counts walk)) →
-          AppendsPart written faults old now (waited ++ rest_text steps leg until start)
+          TellsIn written faults old was waited waits asked leg start until (walking_counts walk) →
+          AppendsPart written faults was now (waits ++ round_text asked leg (walking_counts walk)) →
+          AppendsPart written faults old now (waited ++ rest_text asked leg until start)
       tells-part old was now waited waits walk passing low tells stops =
           let s : Counts = walking_counts walk in
           let next : Counts = live_round (walk_plan leg) s in
           subst (λ l. AppendsPart written faults old now (waited ++ l))
-          (append_assoc tells.told (round_text steps leg s) (rest_text steps leg until next)
-          ∙ ap (λ l. tells.told ++ l) (sym (rest-round steps leg until s (turn-at s passing.rounds passing.are low)))
+          (append_assoc tells.told (round_text asked leg s) (rest_text asked leg until next)
+          ∙ ap (λ l. tells.told ++ l) (sym (rest-round asked leg until s (turn-at s passing.rounds passing.are low)))
           ∙ tells.left)
-          (part-longer written faults old now waited (tells.told ++ round_text steps leg s)
-          (rest_text steps leg until next)
-          (part-more written faults old was now waited waits tells.told (round_text steps leg s) tells.holds stops))
+          (part-longer written faults old now waited (tells.told ++ round_text asked leg s)
+          (rest_text asked leg until next)
+          (part-more written faults old was now waited waits tells.told (round_text asked leg s) tells.holds stops))
 
       pub tells-all : (old now : K) (waited waits : List ℕ) (walk : Walking) → until ≤ (walking_counts walk).ticks →
-          TellsIn written faults old now waited waits steps leg start until (walking_counts walk) →
-          Holds written faults old now waits (waited ++ rest_text steps leg until start)
+          TellsIn written faults old now waited waits asked leg start until (walking_counts walk) →
+          Holds written faults old now waits (waited ++ rest_text asked leg until start)
       tells-all old now waited waits walk over tells =
           subst (λ l. Holds written faults old now waits (waited ++ l))
           (sym (append-nil tells.told)
-          ∙ ap (λ l. tells.told ++ l) (sym (rest-over steps leg until (walking_counts walk) over)) ∙ tells.left)
+          ∙ ap (λ l. tells.told ++ l) (sym (rest-over asked leg until (walking_counts walk) over)) ∙ tells.left)
           tells.holds
 
 -- ---- the text of a round
@@ -265,41 +266,41 @@ frames-text step ticks [] = refl
 frames-text step ticks (frame ∷ frames) =
     ap (λ l. answer_text step (got_at ticks frame) ++ l) (frames-text step ticks frames)
 
-pub round-parts-text : (steps : Bool) (leg : Leg) (was now : Counts) →
-    answers_text (step_line steps leg) (round_answers leg was now)
-    ≡ steps_text steps leg was.ticks now.ticks ++ timed_texts now.ticks (delivered_since leg was.rows now.rows)
-round-parts-text steps leg was now =
-    flat_map-append (answer_text (step_line steps leg)) (steps_between was.ticks now.ticks)
+pub round-parts-text : (asked : Asked) (leg : Leg) (was now : Counts) →
+    answers_text (step_line asked leg) (round_answers leg was now)
+    ≡ steps_text asked leg was.ticks now.ticks ++ timed_texts now.ticks (delivered_since leg was.rows now.rows)
+round-parts-text asked leg was now =
+    flat_map-append (answer_text (step_line asked leg)) (steps_between was.ticks now.ticks)
     (map (got_at now.ticks) (delivered_since leg was.rows now.rows))
-    ∙ ap (λ l. steps_text steps leg was.ticks now.ticks ++ l)
-    (frames-text (step_line steps leg) now.ticks (delivered_since leg was.rows now.rows))
+    ∙ ap (λ l. steps_text asked leg was.ticks now.ticks ++ l)
+    (frames-text (step_line asked leg) now.ticks (delivered_since leg was.rows now.rows))
 
 -- by its parts: what was told after the tick, and then the frames
-pub round-told : (steps : Bool) (leg : Leg) (was mid now : Counts) (before : ℕ) → before ≡ was.ticks →
+pub round-told : (asked : Asked) (leg : Leg) (was mid now : Counts) (before : ℕ) → before ≡ was.ticks →
     mid ≡ counts_after leg was Tick → now ≡ live_round (walk_plan leg) was →
-    steps_text steps leg before mid.ticks ++ timed_texts mid.ticks (delivered_since leg mid.rows now.rows)
-    ≡ round_text steps leg was
-round-told steps leg was mid now before first made all =
+    steps_text asked leg before mid.ticks ++ timed_texts mid.ticks (delivered_since leg mid.rows now.rows)
+    ≡ round_text asked leg was
+round-told asked leg was mid now before first made all =
     let plan = walk_plan leg in
     let next : Counts = live_round plan was in
     let ticks : mid.ticks ≡ next.ticks =
     sym (ap (λ (s : Counts). s.ticks) (round-parts plan was)
     ∙ carries-ticks plan 0 plan.paths (step plan was Tick).counts ∙ sym (ap (λ (s : Counts). s.ticks) made)) in
-    ap (λ n. steps_text steps leg n mid.ticks ++ timed_texts mid.ticks (delivered_since leg mid.rows now.rows)) first
-    ∙ ap (λ n. steps_text steps leg was.ticks n ++ timed_texts n (delivered_since leg mid.rows now.rows)) ticks
-    ∙ ap₂ (λ a b. steps_text steps leg was.ticks next.ticks ++ timed_texts next.ticks (delivered_since leg a b))
+    ap (λ n. steps_text asked leg n mid.ticks ++ timed_texts mid.ticks (delivered_since leg mid.rows now.rows)) first
+    ∙ ap (λ n. steps_text asked leg was.ticks n ++ timed_texts n (delivered_since leg mid.rows now.rows)) ticks
+    ∙ ap₂ (λ a b. steps_text asked leg was.ticks next.ticks ++ timed_texts next.ticks (delivered_since leg a b))
     (tick-kept leg was mid made) (ap (λ (s : Counts). s.rows) all)
-    ∙ sym (round-parts-text steps leg was next)
+    ∙ sym (round-parts-text asked leg was next)
 
 -- ---- the text of a pass
-pub pass-text : (steps : Bool) (leg : Leg) (s : Counts) (k ticks : ℕ) →
+pub pass-text : (asked : Asked) (leg : Leg) (s : Counts) (k ticks : ℕ) →
     ticks ≡ (counts_said (walk_plan leg) s (passes k)).ticks →
-    answers_text (step_line steps leg) (rounds_answers (rounds_for k (walk_plan leg) s) leg s) ++ now_text ticks
-    ≡ answers_text (step_line steps leg) (pass_answers leg s k)
-pass-text steps leg s k ticks is =
-    let rounds = answers_text (step_line steps leg) (rounds_answers (rounds_for k (walk_plan leg) s) leg s) in
+    answers_text (step_line asked leg) (rounds_answers (rounds_for k (walk_plan leg) s) leg s) ++ now_text ticks
+    ≡ answers_text (step_line asked leg) (pass_answers leg s k)
+pass-text asked leg s k ticks is =
+    let rounds = answers_text (step_line asked leg) (rounds_answers (rounds_for k (walk_plan leg) s) leg s) in
     ap (λ n. rounds ++ now_text n) is
-    ∙ sym (flat_map-append (answer_text (step_line steps leg))
+    ∙ sym (flat_map-append (answer_text (step_line asked leg))
     (rounds_answers (rounds_for k (walk_plan leg) s) leg s)
     (now_at (counts_said (walk_plan leg) s (passes k)).ticks ∷ [])
     ∙ ap (λ l. rounds ++ l) (append-nil (now_text (counts_said (walk_plan leg) s (passes k)).ticks)))

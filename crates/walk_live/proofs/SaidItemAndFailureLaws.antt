@@ -24,6 +24,7 @@ use Rattle.law_model.specs.declared.window_types.Window.{Window}
 use Rattle.law_live.proofs.WellSaidLegAndWindowLaws.{IsOpen}
 use Rattle.member_path.specs.failure_window.OpenWindows.{CanClose, closed_at, failure, last_end, opened_at}
 use Rattle.member_path.proofs.FailureWindowListLaws.{closed-append}
+use Rattle.walk_live.specs.declared.asked.Asked.{Asked}
 
 -- ---- The place of the next item of its kind: so many are before it.
 -- an item of another kind is passed over
@@ -128,17 +129,17 @@ counts-are leg s (Add line) = refl
 counts-are leg s (Remove line) = refl
 
 -- ---- what is answered
-pub accepted-text : (steps : Bool) (leg : Leg) (s : Counts) (kind : ItemKind) →
-    refusal_at leg (next_item s kind) ≡ None → answers_text (step_line steps leg) (item_answers leg s kind) ≡ []
-accepted-text steps leg s kind none =
-    ap (λ why. answers_text (step_line steps leg) (refused_answer (s.frames + s.commands) why)) none
+pub accepted-text : (asked : Asked) (leg : Leg) (s : Counts) (kind : ItemKind) →
+    refusal_at leg (next_item s kind) ≡ None → answers_text (step_line asked leg) (item_answers leg s kind) ≡ []
+accepted-text asked leg s kind none =
+    ap (λ why. answers_text (step_line asked leg) (refused_answer (s.frames + s.commands) why)) none
 
-pub refused-text : (steps : Bool) (leg : Leg) (s : Counts) (kind : ItemKind) (number : ℕ) (why : Refusal) →
+pub refused-text : (asked : Asked) (leg : Leg) (s : Counts) (kind : ItemKind) (number : ℕ) (why : Refusal) →
     number ≡ s.frames + s.commands → refusal_at leg (next_item s kind) ≡ Some why →
-    refused_text number why ≡ answers_text (step_line steps leg) (item_answers leg s kind)
-refused-text steps leg s kind number why is some =
+    refused_text number why ≡ answers_text (step_line asked leg) (item_answers leg s kind)
+refused-text asked leg s kind number why is some =
     ap (λ n. refused_text n why) is
-    ∙ sym (ap (λ o. answers_text (step_line steps leg) (refused_answer (s.frames + s.commands) o)) some
+    ∙ sym (ap (λ o. answers_text (step_line asked leg) (refused_answer (s.frames + s.commands) o)) some
     ∙ append-nil (refused_text (s.frames + s.commands) why))
 
 -- ---- The failures of a line, as a walk keeps them and as they were said.

@@ -1,10 +1,9 @@
--- Texts told one behind the other are written or wait (Holds): timed lines of frames, lines of decision steps.
+-- Texts told one behind the other are written or wait (Holds): timed lines of frames.
 use Rattle.std.proofs.Common.{◌≡◌, ℕ, Bool, true, false, List, [], ◌∷◌, ◌++◌, Option, sym, ◌∙◌, ap, append-nil}
-use Rattle.std.proofs.Common.{append_assoc, ap₂, codes, decimal, subst, Result, Ok, Err, OnOk, ◌+◌, ◌-◌, ◌*◌, ◌<◌}
-use Rattle.std.proofs.Common.{nat_lt, inl, inr, Some, refl, arith}
+use Rattle.std.proofs.Common.{append_assoc, ap₂, codes, decimal, subst, Result, Ok, Err, OnOk}
 use Rattle.hex.specs.Hex.{encode_lower}
 use Rattle.std.proofs.lemmas.Grind.{flat_map-append}
-use Rattle.law_model.specs.Common.{AppendsPart, Start, Leg, Table, after, scenario_by, steps_in}
+use Rattle.law_model.specs.Common.{AppendsPart, Start, after}
 use Rattle.octet_io.proofs.AppendedTextAndPrefixLaws.{AppendsPart-longer, AppendsPart-then}
 use Rattle.text_got.specs.TextSoFar.{Holds, Seen, WritesOrWaits, faults_of, known_of, seen, told_of}
 use Rattle.text_got.proofs.WaitingTextInBlockLaws.{Holds-then, Holds-waits}
@@ -12,13 +11,6 @@ use Rattle.law_live.specs.Common.{got_at_text}
 use Rattle.walk_live.specs.TimedWriting.{timed_texts, HasTimed, IsTimedSince}
 use Rattle.text_got.proofs.ToldTextGrowthLaws.{told-more, told-stopped}
 use Rattle.walk_live.specs.declared.timed_lines.TimedLines.{TimedLines}
-use Rattle.std.proofs.lemmas.Bool.{cases_Bool, lt-ltb}
-use Rattle.law_walk.specs.Common.{cell_taken, last_packet, session_of, table_in}
-use Rattle.text_captures.specs.packet_trace.StepText.{step_text}
-use Rattle.walk_engine.specs.declared.walk_core.step_answers.StepNote.{StepNote}
-use Rattle.walk_engine.specs.walk_core.WayParts.{note_of}
-use Rattle.walk_live.specs.PassingRounds.{steps_text}
-use Rattle.walk_live.specs.LiveReplies.{step_line}
 
 -- ---- Texts that are told one behind the other: each is written, or waits in a block.
 module _ {K : Type 0} (written : K → Option (List ℕ)) (faults : K → ℕ) where
@@ -157,47 +149,3 @@ module _ {K : Type 0} (written : K → Option (List ℕ)) (faults : K → ℕ) w
       AppendsPart known_of faults_of first (seen (written new) (faults new)) (text ++ next)
   more-failed failed old new waiting next is stops first text told =
       told-part written faults failed first old new waiting text next is stops told
-
--- ---- The line of a decision step, where one was made and they are told.
--- ---- the last one
-note-some : (leg : Leg) (ticks : ℕ) → 0 < steps_in ticks →
-    note_of leg (last_packet ticks)
-    ≡ Some (record { packet = steps_in ticks - 1; back = cell_taken leg (steps_in ticks - 1) })
-note-some leg ticks some = let yes : nat_lt 0 (steps_in ticks) ≡ true = lt-ltb 0 (steps_in ticks) some in rw yes refl
-
-same-some : {X : Type 0} (x y : X) → Some x ≡ Some y → x ≡ y
-same-some x y e = cc
-
-pub last-line : (leg : Leg) (ticks j lines : ℕ) (note : StepNote) (table : Table) → steps_in ticks ≡ j + 1 →
-    Some note ≡ note_of leg (last_packet ticks) → table ≡ table_in leg ticks → lines ≡ leg.config.lines →
-    step_text note.packet note.back table lines ≡ step_line true leg j
-last-line leg ticks j lines note table made is_note is_table is_lines =
-    let last : StepNote = record { packet = steps_in ticks - 1; back = cell_taken leg (steps_in ticks - 1) } in
-    let e : note ≡ last = same-some note last (is_note ∙ note-some leg ticks (omega (arith, made))) in
-    let number : steps_in ticks - 1 ≡ j = omega (arith, made) in
-    let same : steps_in ticks ≡ steps_in (16 * j + 9) = omega (arith, made) in
-    let at : table_in leg ticks ≡ table_in leg (16 * j + 9) =
-    ap (λ n. (after (scenario_by leg) (session_of leg) n).table) same in
-    ap (λ (n : StepNote). step_text n.packet n.back table lines) e
-    ∙ ap (λ n. step_text n (cell_taken leg n) table lines) number
-    ∙ ap (λ t. step_text j (cell_taken leg j) t lines) (is_table ∙ at)
-    ∙ ap (step_text j (cell_taken leg j) (table_in leg (16 * j + 9))) is_lines
-
--- ---- since some ticks
-pub steps-untold : (steps : Bool) (leg : Leg) (was now : ℕ) → steps ≡ false → steps_text steps leg was now ≡ []
-steps-untold true leg was now is = absurd cc
-steps-untold false leg was now is = elim (cases_Bool (nat_lt (steps_in was) (steps_in now))) [
-  | inl e ↦ rw e refl
-  | inr e ↦ rw e refl
-]
-
-pub steps-same : (steps : Bool) (leg : Leg) (was now : ℕ) → steps_in now ≡ steps_in was →
-    steps_text steps leg was now ≡ []
-steps-same steps leg was now same =
-    let e : nat_lt (steps_in was) (steps_in now) ≡ false = grind (arith, same) in rw e refl
-
-pub steps-one : (steps : Bool) (leg : Leg) (was now : ℕ) → steps ≡ true → steps_in now ≡ steps_in was + 1 →
-    steps_text steps leg was now ≡ step_line true leg (steps_in was)
-steps-one steps leg was now is one =
-    let e : nat_lt (steps_in was) (steps_in now) ≡ true = grind (arith, one) in
-    rw e (append-nil (step_line steps leg (steps_in was)) ∙ ap (λ b. step_line b leg (steps_in was)) is)

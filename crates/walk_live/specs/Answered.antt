@@ -1,5 +1,5 @@
 -- A walk that is told what is said, and what it answers, as private clauses say it.
-use Rattle.std.specs.Prelude.{◌≡◌, ℕ, ◌<◌, Bool, List, [], ◌∷◌, ◌++◌, length, Option, slice_index_or}
+use Rattle.std.specs.Prelude.{◌≡◌, ℕ, ◌<◌, List, [], ◌∷◌, ◌++◌, length, Option, slice_index_or}
 use Rattle.law_model.specs.Common.{AppendsPart, IsNetwork, IsSound, Leg}
 use Rattle.law_model.specs.declared.script_types.Config.{Config}
 use Rattle.law_live.specs.Common.{Agrees, IsWellSaid, Saying, course_at, live_counts, live_of, windows_by}
@@ -8,6 +8,7 @@ use Rattle.walk_engine.specs.walk_core.LiveWalking.{Walking, LiveStands, walking
 use Rattle.walk_engine.specs.walk_core.WayParts.{windows_in}
 use Rattle.walk_live.specs.declared.answered_walk.AnsweredWalk.{AnsweredWalk}
 use Rattle.walk_live.specs.LiveReplies.{answer_to}
+use Rattle.walk_live.specs.declared.asked.Asked.{Asked}
 
 -- a leg of a session in which this was said so far, whatever comes later in it
 pub record IsLegOf (config : Config) (said : List Saying) (leg : Leg) : Type 0 where
@@ -25,22 +26,22 @@ pub record WalksAs (config : Config) (said : List Saying) (walk : Walking) : Typ
   pub total : walk.way.source.total ≡ config.ticks
 
 -- this was said to it over a configuration, and answered
-pub record IsAnswered (walk : AnsweredWalk) (asked : Bool) (config : Config) (said : List Saying) : Type 0 where
+pub record IsAnswered (walk : AnsweredWalk) (asked : Asked) (config : Config) (said : List Saying) : Type 0 where
   pub network : IsNetwork config
   pub well : IsWellSaid config said
   pub walks : WalksAs config said walk.walk
   pub lines : walk.lines ≡ config.lines
   pub items : walk.items ≡ length (live_of config said).items
-  pub steps : walk.steps ≡ asked
+  pub tells : walk.tells ≡ asked
 
 -- one more saying, which was answered: the answer is written, or waits behind what waited
 pub record Answers {K : Type 0} (written : K → Option (List ℕ)) (faults : K → ℕ) (old new : K) (waited waits : List ℕ)
-    (now : AnsweredWalk) (steps : Bool) (config : Config) (said : List Saying) (saying : Saying) : Type 0 where
-  pub is : IsAnswered now steps config (said ++ saying ∷ [])
-  pub holds : Holds written faults old new waits (waited ++ answer_to steps config said saying)
+    (now : AnsweredWalk) (asked : Asked) (config : Config) (said : List Saying) (saying : Saying) : Type 0 where
+  pub is : IsAnswered now asked config (said ++ saying ∷ [])
+  pub holds : Holds written faults old new waits (waited ++ answer_to asked config said saying)
 
 -- or a write failed before all of it was written
-abbrev pub AnswersPart : {K : Type 0} → (K → Option (List ℕ)) → (K → ℕ) → K → K → List ℕ → Bool → Config → List Saying →
+abbrev pub AnswersPart : {K : Type 0} → (K → Option (List ℕ)) → (K → ℕ) → K → K → List ℕ → Asked → Config → List Saying →
     Saying → Type 0
-AnswersPart written faults old new waited steps config said saying =
-    AppendsPart written faults old new (waited ++ answer_to steps config said saying)
+AnswersPart written faults old new waited asked config said saying =
+    AppendsPart written faults old new (waited ++ answer_to asked config said saying)

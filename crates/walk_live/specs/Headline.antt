@@ -1,5 +1,5 @@
 -- What a conversation is worth: a walk of the script that says the same afterwards writes the same frames.
-use Rattle.std.specs.Prelude.{◌≡◌, ℕ, Bool, List, ◌++◌, Ok}
+use Rattle.std.specs.Prelude.{◌≡◌, ℕ, List, ◌++◌, Ok}
 use Rattle.std.specs.Str.Lines.{lines}
 use Rattle.law_model.specs.Common.{IsValid, leg_of}
 use Rattle.law_model.specs.declared.script_types.Script.{Script}
@@ -11,6 +11,7 @@ use Rattle.law_live.specs.Common.{answers, frames_got, items_refused, last_text,
 use Rattle.text_live.specs.LiveScript.{script_of_live}
 use Rattle.text_live.specs.Sayings.{leg_in, sayings}
 use Rattle.walk_live.specs.LiveReplies.{answered}
+use Rattle.walk_live.specs.declared.asked.Asked.{Asked}
 
 -- the script of lines, of which none is faulty
 abbrev pub IsScriptOf : List (List ℕ) → Script → Type 0
@@ -28,8 +29,8 @@ pub record IsWalkOf (ls : List (List ℕ)) (script : Script) : Type 0 where
 
 -- THE HEADLINE of a conversation: the answers to the lines of its text are written, and then the totals; and afterwards
 -- there is a script of which a walk writes the same
-pub record IsLiveHeadline (steps : Bool) (text written : List ℕ) : Type 0 where
+pub record IsLiveHeadline (asked : Asked) (text written : List ℕ) : Type 0 where
   pub answers : written
-      ≡ answered steps (leg_in (lines text)) (sayings (lines text)) ++ last_text (leg_in (lines text)) (sayings (lines text))
+      ≡ answered asked (leg_in (lines text)) (sayings (lines text)) ++ last_text (leg_in (lines text)) (sayings (lines text))
   pub script : Script
   pub walk : IsWalkOf (lines text) script

@@ -1,7 +1,7 @@
 //! A walk that is told what happens, and answers.
-ghost use Rattle.std.specs.Prelude.{◌≡◌, ◌<◌, ◌≤◌, ◌∷◌, ◌++◌, ◌+◌, [], ℕ, Bool, List, OnOk, OnErr, IfOk};
+ghost use Rattle.std.specs.Prelude.{◌≡◌, ◌<◌, ◌≤◌, ◌∷◌, ◌++◌, ◌+◌, ◌*◌, [], ℕ, List, OnOk, OnErr, IfOk};
 ghost use Rattle.std.specs.Prelude.{length, take};
-ghost use Rattle.law_model.specs.Common.{AppendsPart, IsNetwork, Leg, most_lines};
+ghost use Rattle.law_model.specs.Common.{AppendsPart, IsNetwork, Leg, most_lines, steps_in};
 ghost use Rattle.law_model.specs.declared.script_types.Config.{Config};
 ghost use Rattle.text_report.specs.ReportLines.{refused_text};
 ghost use Rattle.text_got.specs.TextSoFar.{Holds};
@@ -14,10 +14,16 @@ ghost use Rattle.law_walk.specs.DeliveredFrames.{delivered_since};
 ghost use Rattle.walk_engine.specs.walk_core.WayParts.{windows_in};
 ghost use Rattle.walk_live.specs.Answered.{Answers, AnswersPart, IsAnswered, IsLegOf, WalksAs};
 ghost use Rattle.walk_live.specs.PassingRounds.{CanPass, CanRound, IsOtherwise, round_text, rounds_text, steps_text};
+ghost use Rattle.walk_live.specs.LiveReplies.{step_line};
+ghost use Rattle.walk_live.specs.PassingRounds.{AreStates, HasStates};
 ghost use Rattle.walk_live.specs.TimedWriting.{timed_texts};
+ghost use Rattle.walk_live.specs.declared.asked.Asked.{Asked};
+ghost use Rattle.walk_live.specs.declared.asked.Asked.TheVariants.{Members, Steps};
 
+use crate::asked::Asked;
+use crate::member_lines::{MEMBERS_ROOM, member_lines, states_of};
 use crate::timed_lines::TimedLines;
-use law_model::{Config, Refusal, Totals};
+use law_model::{Config, MOST_LINES, Refusal, SourceState, Totals};
 use octet_io::{ByteSink, Failed};
 use std::alloc::{AllocError, Global};
 use terminal_group::ItemRef;
@@ -34,8 +40,8 @@ pub(crate) struct AnsweredWalk {
     lines: u8,
     /// How many items have landed.
     items: u32,
-    /// Whether decision steps are told.
-    steps: bool,
+    /// What is told of decision steps.
+    tells: Asked,
 }
 
 impl AnsweredWalk {
@@ -43,17 +49,17 @@ impl AnsweredWalk {
     pub(crate) fn new(
         alloc: Global,
         config: &Config,
-        steps: bool,
+        tells: Asked,
     ) -> Result<AnsweredWalk, AllocError>
         requires { IsNetwork config.now }
-        ensures { IfOk result (λ walk. IsAnswered walk steps config.now []) }
+        ensures { IfOk result (λ walk. IsAnswered walk tells config.now []) }
     {
         let walk = LiveWalk::new(alloc, config)?;
         Ok(AnsweredWalk {
             walk,
             lines: config.lines,
             items: 0,
-            steps,
+            tells,
         })
     }
 
@@ -64,16 +70,16 @@ impl AnsweredWalk {
         block: &mut TextBlock,
         out: &mut K,
     ) -> Result<(), Failed>
-        ensures answers { (steps : Bool) (config : Config) (said : List Saying) →
-            IsAnswered self.old steps config said →
+        ensures answers { (asked : Asked) (config : Config) (said : List Saying) →
+            IsAnswered self.old asked config said →
             IsWellSaid config (said ++ lands (kind_of item.entry) ∷ []) →
             OnOk result (Answers K.written K.faults out.old out.new block.old block.new self.new
-            steps config said (lands (kind_of item.entry))) }
-        ensures part { (steps : Bool) (config : Config) (said : List Saying) →
-            IsAnswered self.old steps config said →
+            asked config said (lands (kind_of item.entry))) }
+        ensures part { (asked : Asked) (config : Config) (said : List Saying) →
+            IsAnswered self.old asked config said →
             IsWellSaid config (said ++ lands (kind_of item.entry) ∷ []) →
             OnErr result (AnswersPart K.written K.faults out.old out.new block.old
-            steps config said (lands (kind_of item.entry))) }
+            asked config said (lands (kind_of item.entry))) }
     {
         let number = self.items;
         self.items = number.saturating_add(1);
@@ -85,22 +91,22 @@ impl AnsweredWalk {
 
     /// Cuts a line, of which nothing is answered.
     pub(crate) fn cut(&mut self, line: u8)
-        requires { (steps : Bool) × (config : Config) × (said : List Saying)
-            × IsAnswered self.old steps config said × IsWellSaid config (said ++ cuts line ∷ []) }
-        ensures { (steps : Bool) (config : Config) (said : List Saying) →
-            IsAnswered self.old steps config said → IsWellSaid config (said ++ cuts line ∷ []) →
-            IsAnswered self.new steps config (said ++ cuts line ∷ []) }
+        requires { (asked : Asked) × (config : Config) × (said : List Saying)
+            × IsAnswered self.old asked config said × IsWellSaid config (said ++ cuts line ∷ []) }
+        ensures { (asked : Asked) (config : Config) (said : List Saying) →
+            IsAnswered self.old asked config said → IsWellSaid config (said ++ cuts line ∷ []) →
+            IsAnswered self.new asked config (said ++ cuts line ∷ []) }
     {
         self.walk.cut(line);
     }
 
     /// Mends a line, of which nothing is answered.
     pub(crate) fn mend(&mut self, line: u8)
-        requires { (steps : Bool) × (config : Config) × (said : List Saying)
-            × IsAnswered self.old steps config said × IsWellSaid config (said ++ mends line ∷ []) }
-        ensures { (steps : Bool) (config : Config) (said : List Saying) →
-            IsAnswered self.old steps config said → IsWellSaid config (said ++ mends line ∷ []) →
-            IsAnswered self.new steps config (said ++ mends line ∷ []) }
+        requires { (asked : Asked) × (config : Config) × (said : List Saying)
+            × IsAnswered self.old asked config said × IsWellSaid config (said ++ mends line ∷ []) }
+        ensures { (asked : Asked) (config : Config) (said : List Saying) →
+            IsAnswered self.old asked config said → IsWellSaid config (said ++ mends line ∷ []) →
+            IsAnswered self.new asked config (said ++ mends line ∷ []) }
     {
         self.walk.mend(line);
     }
@@ -113,18 +119,18 @@ impl AnsweredWalk {
         block: &mut TextBlock,
         out: &mut K,
     ) -> Result<(), Failed>
-        requires { (steps : Bool) × (config : Config) × (said : List Saying)
-            × IsAnswered self.old steps config said × IsWellSaid config (said ++ passes ticks ∷ []) }
-        ensures answers { (steps : Bool) (config : Config) (said : List Saying) →
-            IsAnswered self.old steps config said →
+        requires { (asked : Asked) × (config : Config) × (said : List Saying)
+            × IsAnswered self.old asked config said × IsWellSaid config (said ++ passes ticks ∷ []) }
+        ensures answers { (asked : Asked) (config : Config) (said : List Saying) →
+            IsAnswered self.old asked config said →
             IsWellSaid config (said ++ passes ticks ∷ []) →
             OnOk result (Answers K.written K.faults out.old out.new block.old block.new self.new
-            steps config said (passes ticks)) }
-        ensures part { (steps : Bool) (config : Config) (said : List Saying) →
-            IsAnswered self.old steps config said →
+            asked config said (passes ticks)) }
+        ensures part { (asked : Asked) (config : Config) (said : List Saying) →
+            IsAnswered self.old asked config said →
             IsWellSaid config (said ++ passes ticks ∷ []) →
             OnErr result (AnswersPart K.written K.faults out.old out.new block.old
-            steps config said (passes ticks)) }
+            asked config said (passes ticks)) }
     {
         let until = self.walk.ticks() + ticks;
         match self.make_rounds(until, block, out) {
@@ -135,8 +141,8 @@ impl AnsweredWalk {
 
     /// What came of all that was said, in numbers.
     pub(crate) fn totals(&self) -> Totals
-        ensures { (steps : Bool) (config : Config) (said : List Saying) (leg : Leg) →
-            IsAnswered self.now steps config said → IsLegOf config said leg →
+        ensures { (asked : Asked) (config : Config) (said : List Saying) (leg : Leg) →
+            IsAnswered self.now asked config said → IsLegOf config said leg →
             result ≡ totals_of leg (live_counts leg said) }
     {
         self.walk.totals()
@@ -149,20 +155,20 @@ impl AnsweredWalk {
         block: &mut TextBlock,
         out: &mut K,
     ) -> Result<(), Failed>
-        requires { (steps : Bool) × (config : Config) × (said : List Saying) × (k : ℕ)
-            × CanPass self.old steps config said k until }
+        requires { (asked : Asked) × (config : Config) × (said : List Saying) × (k : ℕ)
+            × CanPass self.old asked config said k until }
         ensures same { IsOtherwise self.old self.new }
-        ensures walks { (steps : Bool) (config : Config) (said : List Saying) (k : ℕ) →
-            CanPass self.old steps config said k until →
+        ensures walks { (asked : Asked) (config : Config) (said : List Saying) (k : ℕ) →
+            CanPass self.old asked config said k until →
             OnOk result (WalksAs config (said ++ passes k ∷ []) self.new.walk) }
-        ensures told { (steps : Bool) (config : Config) (said : List Saying) (k : ℕ) →
-            CanPass self.old steps config said k until →
+        ensures told { (asked : Asked) (config : Config) (said : List Saying) (k : ℕ) →
+            CanPass self.old asked config said k until →
             OnOk result (Holds K.written K.faults out.old out.new block.new
-            (block.old ++ rounds_text steps config said k)) }
-        ensures part { (steps : Bool) (config : Config) (said : List Saying) (k : ℕ) →
-            CanPass self.old steps config said k until →
+            (block.old ++ rounds_text asked config said k)) }
+        ensures part { (asked : Asked) (config : Config) (said : List Saying) (k : ℕ) →
+            CanPass self.old asked config said k until →
             OnErr result (AppendsPart K.written K.faults out.old out.new
-            (block.old ++ rounds_text steps config said k)) }
+            (block.old ++ rounds_text asked config said k)) }
     {
         while self.walk.ticks() < until {
             match self.round(block, out) {
@@ -185,42 +191,112 @@ impl AnsweredWalk {
         ensures told { (leg : Leg) → CanRound leg self.old.walk →
             self.old.lines ≡ leg.config.lines →
             OnOk result (Holds K.written K.faults out.old out.new block.new
-            (block.old ++ round_text self.old.steps leg (walking_counts self.old.walk))) }
+            (block.old ++ round_text self.old.tells leg (walking_counts self.old.walk))) }
         ensures part { (leg : Leg) → CanRound leg self.old.walk →
             self.old.lines ≡ leg.config.lines →
             OnErr result (AppendsPart K.written K.faults out.old out.new
-            (block.old ++ round_text self.old.steps leg (walking_counts self.old.walk))) }
+            (block.old ++ round_text self.old.tells leg (walking_counts self.old.walk))) }
     {
         let before = self.walk.ticks();
+        let states = self.states();
         let _ = self.walk.tick();
-        match self.tell_step(before, block, out) {
+        match self.tell_step(before, &states, block, out) {
             Ok(()) => self.finish_round(block, out),
             Err(Failed) => Err(Failed),
         }
     }
 
-    /// Adds the line of the decision step that was made since a number of ticks, where one was and they are told.
+    /// The state of each line, where members are told and a decision step comes next.
+    fn states(&self) -> [SourceState; MOST_LINES]
+        requires { self.now.lines ≤ most_lines }
+        ensures { (leg : Leg) → LiveStands leg self.now.walk →
+            HasStates self.now.tells leg self.now.lines (walking_counts self.now.walk).ticks result }
+    {
+        if self.tells == Asked::Members && self.walk.ticks() % 16 == 8 {
+            states_of(self.walk.table(), self.lines)
+        } else {
+            [SourceState::Idle; MOST_LINES]
+        }
+    }
+
+    /// Tells the decision step that was made since a number of ticks, where one was; `states` are those of the lines
+    /// by then.
     fn tell_step<K: ByteSink>(
         &self,
         before: u32,
+        states: &[SourceState],
         block: &mut TextBlock,
         out: &mut K,
     ) -> Result<(), Failed>
         requires few { self.now.lines ≤ most_lines }
+        requires size { self.now.lines ≤ length states.now }
         requires least { before ≤ (walking_counts self.now.walk).ticks }
         requires most { (walking_counts self.now.walk).ticks ≤ before + 1 }
         ensures told { (leg : Leg) → LiveStands leg self.now.walk →
             self.now.lines ≡ leg.config.lines →
+            HasStates self.now.tells leg self.now.lines before states.now →
             OnOk result (Holds K.written K.faults out.old out.new block.new
-            (block.old ++ steps_text self.now.steps leg before (walking_counts self.now.walk).ticks)) }
+            (block.old ++ steps_text self.now.tells leg before (walking_counts self.now.walk).ticks)) }
         ensures part { (leg : Leg) → LiveStands leg self.now.walk →
             self.now.lines ≡ leg.config.lines →
+            HasStates self.now.tells leg self.now.lines before states.now →
             OnErr result (AppendsPart K.written K.faults out.old out.new
-            (block.old ++ steps_text self.now.steps leg before (walking_counts self.now.walk).ticks)) }
+            (block.old ++ steps_text self.now.tells leg before (walking_counts self.now.walk).ticks)) }
     {
-        if !self.steps || !is_step(before, self.walk.ticks()) {
+        if !is_step(before, self.walk.ticks()) {
             return Ok(());
         }
+        match self.tells {
+            Asked::Nothing => Ok(()),
+            Asked::Steps => self.tell_packet(block, out),
+            Asked::Members => self.tell_members(states, block, out),
+        }
+    }
+
+    /// Adds a line for each line of the group whose code isn't that of these states.
+    fn tell_members<K: ByteSink>(
+        &self,
+        states: &[SourceState],
+        block: &mut TextBlock,
+        out: &mut K,
+    ) -> Result<(), Failed>
+        requires few { self.now.lines ≤ most_lines }
+        requires size { self.now.lines ≤ length states.now }
+        ensures told { (leg : Leg) (j : ℕ) → LiveStands leg self.now.walk →
+            self.now.lines ≡ leg.config.lines → (walking_counts self.now.walk).ticks ≡ 16 * j + 9 →
+            AreStates leg self.now.lines (16 * j + 8) states.now →
+            OnOk result (Holds K.written K.faults out.old out.new block.new
+            (block.old ++ step_line Members leg j)) }
+        ensures part { (leg : Leg) (j : ℕ) → LiveStands leg self.now.walk →
+            self.now.lines ≡ leg.config.lines → (walking_counts self.now.walk).ticks ≡ 16 * j + 9 →
+            AreStates leg self.now.lines (16 * j + 8) states.now →
+            OnErr result (AppendsPart K.written K.faults out.old out.new
+            (block.old ++ step_line Members leg j)) }
+    {
+        let mut text = [0u8; MEMBERS_ROOM];
+        let end = member_lines(
+            self.walk.ticks(),
+            states,
+            self.walk.table(),
+            self.lines,
+            &mut text,
+        );
+        block.add(&text[..end], out)
+    }
+
+    /// Adds the line of the last decision step.
+    fn tell_packet<K: ByteSink>(&self, block: &mut TextBlock, out: &mut K) -> Result<(), Failed>
+        requires few { self.now.lines ≤ most_lines }
+        requires made { 0 < steps_in (walking_counts self.now.walk).ticks }
+        ensures told { (leg : Leg) (j : ℕ) → LiveStands leg self.now.walk →
+            self.now.lines ≡ leg.config.lines → steps_in (walking_counts self.now.walk).ticks ≡ j + 1 →
+            OnOk result (Holds K.written K.faults out.old out.new block.new
+            (block.old ++ step_line Steps leg j)) }
+        ensures part { (leg : Leg) (j : ℕ) → LiveStands leg self.now.walk →
+            self.now.lines ≡ leg.config.lines → steps_in (walking_counts self.now.walk).ticks ≡ j + 1 →
+            OnErr result (AppendsPart K.written K.faults out.old out.new
+            (block.old ++ step_line Steps leg j)) }
+    {
         let Some(note) = self.walk.last_step() else {
             return Ok(());
         };

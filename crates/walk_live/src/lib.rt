@@ -6,11 +6,14 @@
 #![tactic(auto)]
 
 mod answered_walk;
+mod asked;
 mod live_command;
 mod live_laws;
 mod live_notes;
 mod live_talker;
+mod member_lines;
 mod timed_lines;
 
+pub use asked::Asked;
 pub use live_command::live;
 pub use live_laws::live_law;

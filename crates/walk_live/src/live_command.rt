@@ -4,25 +4,26 @@ ghost use Rattle.command_parts.specs.Gives.{GivesTalk};
 ghost use Rattle.command_parts.specs.Dialogue.{talk_of};
 ghost use Rattle.walk_live.specs.LiveReplies.{live_dialogue};
 
+use crate::asked::Asked;
 use crate::live_talker::LiveTalker;
 use command_parts::{Ran, Stop, talk};
 use octet_io::{ByteSink, ByteSource};
 use std::alloc::{AllocError, Global};
 
-/// Answers a live text, with a line for each decision step where they are asked. A line is answered once its LF has
+/// Answers a live text, with what is asked for of its decision steps. A line is answered once its LF has
 /// come, and what is answered to the lines that have come is put on `out` before more is read. Want of memory is
 /// told only before anything is written.
 pub fn live<S: ByteSource, K: ByteSink>(
     alloc: Global,
-    steps: bool,
+    tells: Asked,
     source: &mut S,
     out: &mut K,
 ) -> Result<Ran<()>, Stop>
     ensures { GivesTalk (lent S.left S.faults source.old source.new)
-        (lent K.written K.faults out.old out.new) (talk_of (live_dialogue steps))
+        (lent K.written K.faults out.old out.new) (talk_of (live_dialogue tells))
         (λ _. Unit {0}) result }
 {
-    match LiveTalker::new(alloc, steps) {
+    match LiveTalker::new(alloc, tells) {
         Ok(talker) => talk(alloc, talker, source, out),
         Err(AllocError) => Err(Stop::Memory),
     }

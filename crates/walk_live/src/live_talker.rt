@@ -1,5 +1,5 @@
 //! Replies to the lines of a live text.
-ghost use Rattle.std.specs.Prelude.{◌≡◌, Bool, List, ◌++◌, Ok, None, ℕ};
+ghost use Rattle.std.specs.Prelude.{◌≡◌, List, ◌++◌, Ok, None, ℕ};
 ghost use Rattle.std.specs.Prelude.{IfOk, IfErr, IfSome, OnOk, OnErr};
 ghost use Rattle.law_model.specs.Common.{AppendsPart, IsNetwork};
 ghost use Rattle.law_model.specs.declared.script_types.Config.{Config};
@@ -14,8 +14,10 @@ ghost use Rattle.walk_live.specs.Answered.{IsAnswered};
 ghost use Rattle.walk_live.specs.LiveReplies.{answered_since, live_dialogue};
 ghost use Rattle.walk_live.specs.Talking.{AnswersMore, CanAnswer, HasAnswered, HasReadLine, IsTalking};
 ghost use Rattle.walk_live.specs.Talking.{StopsBefore};
+ghost use Rattle.walk_live.specs.declared.asked.Asked.{Asked};
 
 use crate::answered_walk::AnsweredWalk;
+use crate::asked::Asked;
 use crate::live_notes::stop_of_live;
 use command_parts::{Stop, Talker};
 use law_model::{Config, Totals};
@@ -29,8 +31,8 @@ use text_report::{TOTAL_ROOM, total_line};
 /// Reads a live text, and has a walk from its first live line on.
 #[derive(Drop)]
 pub(crate) struct LiveTalker {
-    /// Whether decision steps are told.
-    steps: bool,
+    /// What is told of decision steps.
+    tells: Asked,
     reader: LiveReader,
     walk: Option<AnsweredWalk>,
 }
@@ -38,14 +40,14 @@ pub(crate) struct LiveTalker {
 /// Makes a walk over the configuration that is handed out, where there is none.
 fn open(
     alloc: Global,
-    steps: bool,
+    tells: Asked,
     config: Option<Config>,
     walk: &mut Option<AnsweredWalk>,
 ) -> Result<(), AllocError>
     requires { IfSome config IsNetwork }
     ensures opens { (own : Config) (said : List Saying) →
-        CanAnswer walk.old config steps own said →
-        OnOk result (HasAnswered walk.new steps own said) }
+        CanAnswer walk.old config tells own said →
+        OnOk result (HasAnswered walk.new tells own said) }
     ensures short { OnErr result (walk.old ≡ None) }
 {
     if walk.is_some() {
@@ -54,7 +56,7 @@ fn open(
     let Some(config) = config else {
         return Ok(());
     };
-    match AnsweredWalk::new(alloc, &config, steps) {
+    match AnsweredWalk::new(alloc, &config, tells) {
         Ok(new) => {
             *walk = Some(new);
             Ok(())
@@ -71,20 +73,20 @@ fn say<K: ByteSink>(
     block: &mut TextBlock,
     out: &mut K,
 ) -> Result<(), Failed>
-    requires { (steps : Bool) × (config : Config) × (said : List Saying)
-        × IsAnswered walk.old steps config said
+    requires { (asked : Asked) × (config : Config) × (said : List Saying)
+        × IsAnswered walk.old asked config said
         × IsWellSaid config (said ++ saying_of (told_line frame.now says)) }
-    ensures answers { (steps : Bool) (config : Config) (said : List Saying) →
-        IsAnswered walk.old steps config said →
+    ensures answers { (asked : Asked) (config : Config) (said : List Saying) →
+        IsAnswered walk.old asked config said →
         IsWellSaid config (said ++ saying_of (told_line frame.now says)) →
         OnOk result (AnswersMore K.written K.faults out.old out.new block.old block.new walk.new
-        steps config said (saying_of (told_line frame.now says))) }
-    ensures part { (steps : Bool) (config : Config) (said : List Saying) →
-        IsAnswered walk.old steps config said →
+        asked config said (saying_of (told_line frame.now says))) }
+    ensures part { (asked : Asked) (config : Config) (said : List Saying) →
+        IsAnswered walk.old asked config said →
         IsWellSaid config (said ++ saying_of (told_line frame.now says)) →
         (let more = saying_of (told_line frame.now says) in
         OnErr result (AppendsPart K.written K.faults out.old out.new
-        (block.old ++ answered_since steps (leg_said config (said ++ more)) said more))) }
+        (block.old ++ answered_since asked (leg_said config (said ++ more)) said more))) }
 {
     match says {
         LiveLine::Blank | LiveLine::Setting => Ok(()),
@@ -121,12 +123,12 @@ fn tell_totals<K: ByteSink>(
 
 impl LiveTalker {
     /// One that has read nothing.
-    pub(crate) fn new(alloc: Global, steps: bool) -> Result<LiveTalker, AllocError>
-        ensures steps { IfOk result (λ talker. talker.steps ≡ steps) }
-        ensures talking { IfOk result (λ talker. IsTalking talker (nothing_heard (live_dialogue steps))) }
+    pub(crate) fn new(alloc: Global, tells: Asked) -> Result<LiveTalker, AllocError>
+        ensures tells { IfOk result (λ talker. talker.tells ≡ tells) }
+        ensures talking { IfOk result (λ talker. IsTalking talker (nothing_heard (live_dialogue tells))) }
     {
         Ok(LiveTalker {
-            steps,
+            tells,
             reader: LiveReader::new(alloc)?,
             walk: None,
         })
@@ -150,7 +152,7 @@ impl LiveTalker {
             _ => {}
         }
         let config = self.reader.take_config();
-        match open(alloc, self.steps, config, &mut self.walk) {
+        match open(alloc, self.tells, config, &mut self.walk) {
             Ok(()) => Ok(says),
             Err(AllocError) => Err(Stop::Memory),
         }
@@ -194,7 +196,7 @@ impl LiveTalker {
             return Err(stop_of_live(fault));
         }
         let config = self.reader.take_config();
-        match open(alloc, self.steps, config, &mut self.walk) {
+        match open(alloc, self.tells, config, &mut self.walk) {
             Ok(()) => {}
             Err(AllocError) => return Err(Stop::Memory),
         }
@@ -209,7 +211,7 @@ impl Talker for LiveTalker {
     ghost use Rattle.walk_live.specs.LiveReplies.{live_dialogue};
     ghost use Rattle.walk_live.specs.Talking.{IsTalking};
 
-    ghost dialogue = { λ talker. live_dialogue talker.steps };
+    ghost dialogue = { λ talker. live_dialogue talker.tells };
 
     ghost Hears = { λ talker heard. IsTalking talker heard };
 

@@ -24,7 +24,7 @@ abbrev pub hex_lines : Language (List ℕ) LineKind
 hex_lines = record {
   first = [];
   fault = λ octets ws. where_true (is_none (line_octets ws)) Hex;
-  after = λ octets ws. octets ++ unwrap_or (line_octets ws) [];
+  after = λ n octets ws. octets ++ unwrap_or (line_octets ws) [];
   missing = λ octets. None;
 }
 

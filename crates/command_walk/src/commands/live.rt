@@ -11,33 +11,43 @@ use command_parts::{Ran, Stop};
 use octet_io::{ByteSink, ByteSource};
 use std::alloc::Global;
 use walk_engine::walk_core::Walk;
+use walk_live::Asked;
 
-/// The words `live`, or `live` and `trace`.
+/// The words `live`, or `live` and `trace` or `told`.
 pub fn words(words: &[String]) -> Option<WalkCommand>
     ensures { result ≡ live_words (map string_bytes words.now) }
 {
     match words {
-        [word] if word.as_str() == "live" => Some(WalkCommand::Live { trace: false }),
-        [word, trace] if word.as_str() == "live" && trace.as_str() == "trace" => {
-            Some(WalkCommand::Live { trace: true })
+        [word] if word.as_str() == "live" => Some(WalkCommand::Live {
+            tells: Asked::Nothing,
+        }),
+        [word, what] if word.as_str() == "live" && what.as_str() == "trace" => {
+            Some(WalkCommand::Live {
+                tells: Asked::Steps,
+            })
+        }
+        [word, what] if word.as_str() == "live" && what.as_str() == "told" => {
+            Some(WalkCommand::Live {
+                tells: Asked::Members,
+            })
         }
         _ => None,
     }
 }
 
-/// Answers a live text, where `trace` is said with a line for each decision step. What is answered to the lines that
+/// Answers a live text, with what is asked for of its decision steps. What is answered to the lines that
 /// have come is put on `out` before more is read. The walk isn't handed back.
 pub fn live<S: ByteSource, K: ByteSink>(
     alloc: Global,
-    trace: bool,
+    tells: Asked,
     script: &mut S,
     out: &mut K,
 ) -> Result<Ran<Option<Walk>>, Stop>
     ensures { GivesTalk (lent S.left S.faults script.old script.new)
-        (lent K.written K.faults out.old out.new) (talk_of (live_dialogue trace))
+        (lent K.written K.faults out.old out.new) (talk_of (live_dialogue tells))
         (λ walk. walk ≡ None) result }
 {
-    match walk_live::live(alloc, trace, script, out) {
+    match walk_live::live(alloc, tells, script, out) {
         Ok(ran) => Ok(Ran {
             made: None,
             written: ran.written,

@@ -12,6 +12,7 @@ pub(super) mod h4;
 pub(super) mod live;
 pub(super) mod make;
 pub(super) mod noise;
+pub(super) mod one_way;
 pub(super) mod pair;
 pub(super) mod service;
 pub(super) mod stream;

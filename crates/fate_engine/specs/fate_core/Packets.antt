@@ -1,5 +1,5 @@
 -- What is kept of the packets of a group.
-use Rattle.std.specs.Prelude.{◌≡◌, ℕ, ◌+◌, ◌*◌, ◌≤◌, ◌<◌, ◌^◌, Bool, false, List, [], length, take, sum_by}
+use Rattle.std.specs.Prelude.{◌≡◌, ◌≢◌, ℕ, suc, ◌+◌, ◌*◌, ◌≤◌, ◌<◌, ◌^◌, Bool, false, List, [], length, take, sum_by}
 use Rattle.std.specs.Prelude.{Option, Some, slice_get, slice_index_or, replicate, flat_map}
 use Rattle.law_model.specs.Common.{Scenario, Told, active, is_known, table_of, most_lines, most_packets}
 use Rattle.fate_engine.specs.declared.fate_core.packet_rows.Run.{Run}
@@ -46,10 +46,16 @@ pub record Follows (size : ℕ) (before : List Run) (run : Run) : Type 0 where
 pub record ArePacketRuns (size : ℕ) (runs : List Run) : Type 0 where
   pub each : (i : ℕ) (run : Run) → slice_get runs i ≡ Some run → Follows size (take i runs) run
 
--- what is true of the fields: the runs have all packets, and their rows end there
+-- runs next to each other have other lines
+pub record AreApart (runs : List Run) : Type 0 where
+  pub apart : (i : ℕ) (before after : Run) → slice_get runs i ≡ Some before → slice_get runs (suc i) ≡ Some after →
+      before.lines.items ≢ after.lines.items
+
+-- what is true of the fields: the runs are the longest ones, have all packets, and their rows end there
 pub record IsPacketList (size : ℕ) (runs : List Run) (count end : ℕ) : Type 0 where
   pub small : size < 2 ^ 16
   pub begin : ArePacketRuns size runs
+  pub longest : AreApart runs
   pub all : count ≡ length (active_in runs)
   pub few : count ≤ most_packets
   pub ends : end ≡ octets_of size (active_in runs)

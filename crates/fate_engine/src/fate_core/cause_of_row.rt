@@ -1,7 +1,8 @@
 //! Why a row isn't whole.
 ghost use Rattle.std.specs.Prelude.{◌≡◌, ◌+◌, ◌-◌, ◌*◌, ◌^◌, ◌<◌, ◌≤◌, length, List, All, Option};
 ghost use Rattle.std.specs.List.{list_any};
-ghost use Rattle.law_model.specs.Common.{AreWindows, Scenario, Told, lock_of, most_packets};
+ghost use Rattle.law_model.specs.Common.{AreWindows, Scenario, Told, is_readable, lock_of, most_packets};
+ghost use Rattle.law_model.specs.members.Damage.{carried};
 ghost use Rattle.fate_engine.specs.fate_law.RowCauses.{row_cause as cause_of, lesser as lesser_of, least_failing};
 ghost use Rattle.fate_engine.specs.fate_law.RowCauses.{packet_cause, container_cause};
 ghost use Rattle.fate_engine.specs.fate_core.WholeContainers.{whole_in, whole_on};
@@ -36,11 +37,11 @@ fn are_whole_on(windows: &WindowLists, line: u8, from: u32, count: u32) -> bool
     line >= windows.0.len() || are_whole(&windows.0[line].0, from, count)
 }
 
-/// Whether some line has a readable packet.
-fn is_heard(windows: &WindowLists, packet: u32) -> bool
+/// Whether some line has a readable packet, by the failures of each line.
+pub fn is_heard(windows: &WindowLists, packet: u32) -> bool
     requires apart { All (AreWindows 0) windows.now }
-    requires fits { packet ≤ most_packets }
-    ensures { result ≡ list_any (λ list. whole_in list (16 * packet) 24) windows.now }
+    requires fits { 16 * packet + 24 < 2 ^ 32 }
+    ensures { result ≡ list_any (λ list. is_readable (carried list) packet) windows.now }
 {
     for list in &windows.0 {
         if are_whole(&list.0, 16 * packet, 24) {

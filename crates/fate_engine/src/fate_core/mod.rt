@@ -14,7 +14,7 @@ mod row_segments;
 mod spoiled_runs;
 
 pub use crate::fate_law::{Cause, Fate, RowSegment, SpoiledRun};
-pub use cause_of_row::row_cause;
+pub use cause_of_row::{is_heard, row_cause};
 pub use fate_totals::FateTotals;
 pub use frame_fate::{fate, starts_true};
 pub use frame_ruler::Ruler;

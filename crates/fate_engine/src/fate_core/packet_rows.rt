@@ -1,10 +1,10 @@
 //! The rows that control packets govern: which lines carry payload in them, whether the sink knows these lines,
 //! and where in the stream they begin.
-ghost use Rattle.std.specs.Prelude.{◌≡◌, ℕ, suc, ◌+◌, ◌-◌, ◌*◌, ◌/◌, ◌≤◌, ◌<◌, [], ◌∷◌, ◌++◌, length, List, OnOk};
-ghost use Rattle.std.specs.Prelude.{OnErr, IfSome, IfNone, IsTrue, Option, Some, slice_get};
+ghost use Rattle.std.specs.Prelude.{◌≡◌, ◌≢◌, ℕ, suc, ◌+◌, ◌-◌, ◌*◌, ◌/◌, ◌≤◌, ◌<◌, [], ◌∷◌, ◌++◌, length, List, OnOk};
+ghost use Rattle.std.specs.Prelude.{OnErr, IfSome, IfNone, IsTrue, false, Option, Some, slice_get};
 ghost use Rattle.fate_engine.specs.declared.fate_core.packet_rows.Run.{Run as RunData};
 ghost use Rattle.law_model.specs.Common.{Scenario, Told, active, is_known, table_of, place_of, width, most_lines, most_packets};
-ghost use Rattle.fate_engine.specs.fate_core.Packets.{ArePackets, ArePacketRuns, IsRun, active_in, octets_of, start_by};
+ghost use Rattle.fate_engine.specs.fate_core.Packets.{ArePackets, AreApart, ArePacketRuns, IsRun, active_in, octets_of, start_by};
 
 use arrayvec::ArrayVec;
 use law_model::{MOST_LINES, MOST_PACKETS};
@@ -38,6 +38,8 @@ fn goes_on(runs: &[Run], lines: &ArrayVec<u8, MOST_LINES>) -> bool
     ensures some { IsTrue result → 0 < length runs.now }
     ensures same { (run : RunData) → IsTrue result →
         slice_get runs.now (length runs.now - 1) ≡ Some run → run.lines.items ≡ lines.now.items }
+    ensures other { (run : RunData) → result ≡ false →
+        slice_get runs.now (length runs.now - 1) ≡ Some run → run.lines.items ≢ lines.now.items }
 {
     match runs.last() {
         Some(last) => last.lines == *lines,
@@ -61,6 +63,7 @@ fn add_packet(
     ensures begin { (size : ℕ) → ArePacketRuns size runs.old.items →
         start ≡ octets_of size (active_in runs.old.items) →
         OnOk result (ArePacketRuns size runs.new.items) }
+    ensures longest { AreApart runs.old.items → OnOk result (AreApart runs.new.items) }
     ensures err { OnErr result (runs.new.items ≡ runs.old.items) }
 {
     if goes_on(runs, &lines) {

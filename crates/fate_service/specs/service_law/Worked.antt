@@ -32,7 +32,7 @@ abbrev pub one_text : List ℕ
 one_text =
     codes "members 0 1 0 0\n"
     ++ codes "stretch 0 1 offered 0 0 refused 0 0 got 0 0 lost 0 0 capacity 0 queue 0 0 delay 0 dark 0\n"
-    ++ codes "delays least 0 half 0 most 0 greatest 0\n"
+    ++ codes "delays least 0 half 0 most 0 greatest 0 path 0\n"
     ++ codes "service 0 1 offered 0 0 refused 0 0 got 0 0 lost 0 0 capacity 0 queue 0 0 delay 0 dark 0"
     ++ codes " outages 0 waits 0 0 ticks 1 taken 1 starts true\n"
 
@@ -66,7 +66,7 @@ late_text =
     codes "members 0 56 0 0\n" ++ codes "members 56 59 1 756\n"
     ++ codes "stretch 0 61 offered 1 64 refused 0 0 got 0 0 lost 0 0 capacity 2268 queue 1 60 delay 0 dark 0\n"
     ++ codes "stretch 61 63 offered 2 128 refused 0 0 got 0 0 lost 0 0 capacity 0 queue 1 61 delay 0 dark 0\n"
-    ++ codes "delays least 0 half 0 most 0 greatest 0\n"
+    ++ codes "delays least 0 half 0 most 0 greatest 0 path 3\n"
     ++ codes "service 0 63 offered 3 192 refused 0 0 got 0 0 lost 0 0 capacity 2268 queue 1 60 delay 0 dark 0"
     ++ codes " outages 0 waits 3 192 ticks 62 taken 59 starts true\n"
 

@@ -10,9 +10,9 @@ use Rattle.pair_walk.specs.pair_script.PairOfText.{pair_of}
 use Rattle.pair_walk.specs.pair_script.Pieces.{IsPairReader, StandsAt}
 use Rattle.pair_walk.specs.pair_script.Faults.{pair_fault_text, pair_why}
 
--- two scripts, or why a text isn't two, and the note on that; no text wants for memory
-abbrev pub pair_told : Result ScriptPair PairFault → Result ScriptPair (Refusal × List ℕ)
-pair_told (Ok pair) = Ok pair
+-- what is said, or why a text doesn't say two scripts, and the note on that; no text wants for memory
+abbrev pub pair_told : {T : Type 0} → Result T PairFault → Result T (Refusal × List ℕ)
+pair_told (Ok said) = Ok said
 pair_told (Err fault) = Err (pair_why fault, pair_fault_text fault)
 
 -- what is answered of that

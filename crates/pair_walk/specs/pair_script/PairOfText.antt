@@ -1,5 +1,5 @@
 -- The two scripts that a text says, or its first fault.
-use Rattle.std.specs.Prelude.{ℕ, ◌==◌, ◌||◌, nat_lt, not, List, length, Option, Some, None, Result, Ok, Err, option_map}
+use Rattle.std.specs.Prelude.{ℕ, ◌==◌, ◌||◌, max, nat_lt, not, List, length, Option, Some, None, Result, Ok, Err, option_map}
 use Rattle.std.specs.Prelude.{unwrap_or}
 use Rattle.std.specs.Option.{option_or}
 use Rattle.text_lines.specs.Fields.{where_true}
@@ -7,28 +7,39 @@ use Rattle.text_lines.specs.Language.{said_by}
 use Rattle.law_model.specs.declared.script_types.Script.{Script}
 use Rattle.text_scripts.specs.declared.script_read.script_fault.ScriptFault.TheVariants.{Line}
 use Rattle.text_scripts.specs.script_read.Statements.{at_first}
-use Rattle.text_scripts.specs.script_read.Script.{script_in, config_fault}
+use Rattle.text_scripts.specs.script_read.Script.{script_in, config_fault, least_lag}
+use Rattle.law_pair.specs.declared.pair_events.Way.TheVariants.{There, Back}
 use Rattle.pair_walk.specs.declared.pair_script.script_pair.ScriptPair.{ScriptPair}
 use Rattle.pair_walk.specs.declared.pair_script.script_pair.PairFault.{PairFault}
 use Rattle.pair_walk.specs.declared.pair_script.script_pair.PairFault.TheVariants as fault
 use Rattle.pair_walk.specs.pair_script.PairTextLines.{Halves, HalfFault, of_script, no_division, pair_lines}
 
 -- ---- the tests of two scripts all of whose lines are right
--- of both together: neither loses return packets by itself or has event lines, their lags are the same and at most
--- 256, and their ticks are the same
-abbrev pub fit_fault : Script → Script → Option PairFault
-fit_fault there back =
-    option_or (where_true (nat_lt 0 (length there.config.lost) || nat_lt 0 (length back.config.lost)) fault.Lost)
-    (option_or (where_true (nat_lt 0 (length there.events) || nat_lt 0 (length back.events)) fault.Events)
-    (option_or (where_true (not (there.config.lag == back.config.lag) || nat_lt 256 there.config.lag)
-    (fault.Lag there.config.lag back.config.lag))
-    (where_true (not (there.config.ticks == back.config.ticks)) (fault.Ticks there.config.ticks back.config.ticks))))
+-- neither loses return packets by itself or has event lines
+abbrev pub alone_fault : Script → Script → Option PairFault
+alone_fault there back =
+    option_or (where_true (nat_lt 0 (length there.config.lost)) (fault.Lost There))
+    (option_or (where_true (nat_lt 0 (length back.config.lost)) (fault.Lost Back))
+    (option_or (where_true (nat_lt 0 (length there.events)) (fault.Events There))
+    (where_true (nat_lt 0 (length back.events)) (fault.Events Back))))
 
--- of each by itself first
+-- the least lag that the delays and slips of both allow
+abbrev pub least_of : Script → Script → ℕ
+least_of there back = max (least_lag there.config) (least_lag back.config)
+
+-- their lags are the same and at most 256, and their ticks are the same
+abbrev pub unlike_fault : Script → Script → Option PairFault
+unlike_fault there back =
+    option_or (where_true (not (there.config.lag == back.config.lag) || nat_lt 256 there.config.lag)
+    (fault.Lag there.config.lag back.config.lag (least_of there back)))
+    (where_true (not (there.config.ticks == back.config.ticks)) (fault.Ticks there.config.ticks back.config.ticks))
+
+-- the limits of each script come first
 abbrev pub limits_fault : ScriptPair → Option PairFault
 limits_fault pair =
-    option_or (option_map fault.Script (config_fault pair.there.config))
-    (option_or (option_map fault.Script (config_fault pair.back.config)) (fit_fault pair.there pair.back))
+    option_or (option_map (fault.Limit There) (config_fault pair.there.config))
+    (option_or (option_map (fault.Limit Back) (config_fault pair.back.config))
+    (option_or (alone_fault pair.there pair.back) (unlike_fault pair.there pair.back)))
 
 -- ---- the text
 -- the fault of a line, by its number

@@ -42,9 +42,9 @@ half_fault h ws = option_map of_script (if divides h ws then missing_line h.now 
 abbrev pub divided : Draft → Halves
 divided d = record { there = Some (script_in d); now = at_first }
 
-abbrev pub half_after : Halves → List (List ℕ) → Halves
-half_after h ws =
-    if divides h ws then divided h.now else record { there = h.there; now = after h.now (words_said ws) }
+abbrev pub half_after : ℕ → Halves → List (List ℕ) → Halves
+half_after n h ws =
+    if divides h ws then divided h.now else record { there = h.there; now = after n h.now (words_said ws) }
 
 -- after the last line
 abbrev pub half_missing : Halves → Option HalfFault

@@ -12,6 +12,7 @@ mod pair_script_laws;
 mod read_pair_pieces;
 mod script_pair;
 
+pub use pair_fault_note::stop_of_pair;
 pub use pair_script_laws::{fault_law, valid_law};
 pub use read_pair_pieces::read_pair;
 pub use script_pair::{PairFault, ScriptPair};

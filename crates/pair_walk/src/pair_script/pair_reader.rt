@@ -92,7 +92,7 @@ impl PairReader {
         ensures reader { IfOk result IsPairReader }
         ensures sound { IfOk result (λ _. half_fault (halves_of self) (words line.now) ≡ None) }
         ensures at { IfOk result (λ read. IsPairAt read (line_at self + 1)
-            (half_after (halves_of self) (words line.now))) }
+            (half_after (line_at self) (halves_of self) (words line.now))) }
         ensures fault { IfErr result (λ fault. (fault ≡ no_memory) ⊎
             IsPairToldAt (line_at self) (half_fault (halves_of self) (words line.now)) fault) }
     {

@@ -57,7 +57,7 @@ missing_line d = where_true (nat_lt d.next 6) (Missing (awaited d.next))
 -- the lines of scripts, one after another
 abbrev pub script_lines : Language Draft LineFault
 script_lines =
-    record { first = at_first; fault = words_fault; after = λ d ws. after d (words_said ws); missing = missing_line }
+    record { first = at_first; fault = words_fault; after = λ n d ws. after n d (words_said ws); missing = missing_line }
 
 -- ---- the text
 abbrev pub script_in : Draft → Script
@@ -78,7 +78,7 @@ script_of text = script_of_draft (said_by script_lines text)
 -- no line is faulty, the configuration is whole, and its tests find no fault
 pub record IsScriptOf (ls : List (List ℕ)) (script : Script) : Type 0 where
   pub now : Draft
-  pub sound : AreSound script_lines at_first ls now
+  pub sound : AreSound script_lines 1 at_first ls now
   pub whole : 6 ≤ now.next
   pub passes : config_fault now.config ≡ None
   pub is : script ≡ script_in now

@@ -11,7 +11,7 @@ use Rattle.text_scripts.specs.declared.script_read.script_fault.SizesFault.TheVa
 use Rattle.text_lines.specs.declared.text_faults.FieldFault.TheVariants as field
 use Rattle.text_lines.specs.declared.text_faults.Names.TheVariants as names
 use Rattle.text_lines.specs.WordsOfLine.{word_at, is_skipped, is_digit, is_number, number_of, number_at, octets_of}
-use Rattle.text_lines.specs.Fields.{Field, within, any, above, digits, one_of, where_true, fields_fault}
+use Rattle.text_lines.specs.Fields.{Field, within, any, above, digits, one_of, where_true, number_fault, fields_fault}
 use Rattle.law_rates.specs.Limits.{most_sizes, most_mbits}
 use Rattle.law_rates.specs.Rates.{count_of, due_of}
 use Rattle.law_rates.specs.declared.rate_frames.Rate.{Rate}
@@ -30,6 +30,7 @@ use Rattle.text_scripts.specs.declared.script_read.script_keyword.Part.TheVarian
 use Rattle.text_scripts.specs.declared.script_read.script_draft.Statement.{Statement}
 use Rattle.text_scripts.specs.declared.script_read.script_draft.Statement.TheVariants as says
 use Rattle.text_scripts.specs.declared.script_read.script_draft.Draft.{Draft}
+use Rattle.text_scripts.specs.declared.script_read.script_draft.Standing.{Standing}
 use Rattle.law_model.specs.Common.{largest_ring, longest_delay, longest_holdoff, longest_lag, longest_offer}
 use Rattle.law_model.specs.Common.{longest_restore, longest_slip, most_packets, most_windows}
 
@@ -128,17 +129,41 @@ part_of at =
 abbrev pub begun_at : ℕ → Part
 begun_at next = part_of (max next 7)
 
+-- the number of the line that has this first word, of the configuration or of an option, or 0 where none stands
+abbrev pub standing_at : Standing → Keyword → ℕ
+standing_at s word.Container = s.container
+standing_at s word.Lines = s.lines
+standing_at s word.Delays = s.delays
+standing_at s word.Ring = s.ring
+standing_at s word.Lag = s.lag
+standing_at s word.Ticks = s.ticks
+standing_at s word.Sink = s.sink
+standing_at s word.Holdoff = s.holdoff
+standing_at s word.Restore = s.restore
+standing_at s word.Statuses = s.statuses
+standing_at s k = 0
+
+-- the fault of a line of an earlier part than the one that has begun, where none such stands; and of any
+abbrev pub unstood_fault : ℕ → Keyword → LineFault
+unstood_fault next word.Container = wrong.ContainerFirst
+unstood_fault next k = wrong.Part (part_of (place k)) (begun_at next)
+
+abbrev pub behind_fault : Draft → Keyword → LineFault
+behind_fault d k =
+    if nat_lt 0 (standing_at d.standing k) then wrong.Stands k (standing_at d.standing k) else unstood_fault d.next k
+
 -- before place 6 each line has its place, and that of the container may be passed over; from there on no line comes
--- back to an
--- earlier part
-abbrev pub place_fault : ℕ → ℕ → Option LineFault
-place_fault next at =
-    option_or (where_true (nat_lt next 6 && not (at == next || (next == 0 && at == 1))) (wrong.Missing (awaited next)))
-    (where_true (nat_lt at next) (wrong.Part (part_of at) (begun_at next)))
+-- back to an earlier part
+abbrev pub place_fault : Draft → Keyword → Option LineFault
+place_fault d k =
+    option_or
+    (where_true (nat_lt d.next 6 && not (place k == d.next || (d.next == 0 && place k == 1)))
+    (wrong.Missing (awaited d.next)))
+    (where_true (nat_lt (place k) d.next) (behind_fault d k))
 
 -- ---- the other words
--- what the words after a keyword have to be, of a stream those between its sizes and its number; how many return packets
--- tell all statuses is a name, as a container and what a sink does are
+-- what the words after a keyword have to be, of a failure those before its slip, of a stream those between its sizes and
+-- its number; how many return packets tell all statuses is a name, as a container and what a sink does are
 abbrev pub fields : Draft → Keyword → List Field
 fields d word.Container = one_of names.Containers ∷ []
 fields d word.Lines = within 1 most_lines ∷ []
@@ -150,7 +175,7 @@ fields d word.Sink = one_of names.Sinks ∷ []
 fields d word.Holdoff = within 0 longest_holdoff ∷ []
 fields d word.Restore = within 0 longest_restore ∷ []
 fields d word.Statuses = one_of names.Statuses ∷ []
-fields d word.Fail = within 0 (d.config.lines - 1) ∷ any ∷ above d.config.ticks ∷ within 0 longest_slip ∷ []
+fields d word.Fail = within 0 (d.config.lines - 1) ∷ any ∷ above d.config.ticks ∷ []
 fields d word.Lost = any ∷ above most_packets ∷ []
 fields d word.Frame = within 0 (d.config.ticks - 1) ∷ digits 1 longest_offer ∷ []
 fields d word.Stream = within 1 most_mbits ∷ any ∷ above d.config.ticks ∷ []
@@ -167,8 +192,20 @@ fields d word.Drain = []
 
 -- how many words follow it
 abbrev pub takes : Draft → Keyword → ℕ
+takes d word.Fail = 4
 takes d word.Stream = 5
 takes d k = length (fields d k)
+
+-- a slip that says how much longer a path gets, which is none: a minus, and one to ten digits
+abbrev pub is_longer : List ℕ → Bool
+is_longer [] = false
+is_longer (c ∷ number) = c == 45 && is_number number
+
+-- the slip is word 5
+abbrev pub longer_fault : List ℕ → Option LineFault
+longer_fault word =
+    option_or (where_true (is_longer word) wrong.LongerPath)
+    (option_map wrong.Field (number_fault 5 0 longest_slip word))
 
 -- the sizes that a word says: its parts between commas
 abbrev pub parts_of : List ℕ → List (List ℕ)
@@ -198,6 +235,8 @@ long_fault word =
 
 -- the fault of the words behind the first one, of which the first is word 2 of its line
 abbrev pub each_fault : Draft → Keyword → List (List ℕ) → Option LineFault
+each_fault d word.Fail ws =
+    option_or (option_map wrong.Field (fields_fault (fields d word.Fail) 2 0 ws)) (longer_fault (word_at 3 ws))
 each_fault d word.Stream ws =
     option_or (option_map wrong.Sizes (sizes_fault (word_at 0 ws)))
     (option_or (option_map wrong.Field (fields_fault (fields d word.Stream) 3 0 (drop 1 ws)))
@@ -245,10 +284,10 @@ items_with d k ws = length d.items + 1
 
 -- an option stands already; a line, or the return path, has 256 windows; the items are too many
 abbrev pub is_full : Draft → Keyword → List (List ℕ) → Bool
-is_full d word.Sink ws = d.has_sink
-is_full d word.Holdoff ws = d.has_holdoff
-is_full d word.Restore ws = d.has_restore
-is_full d word.Statuses ws = d.has_statuses
+is_full d word.Sink ws = nat_lt 0 d.standing.sink
+is_full d word.Holdoff ws = nat_lt 0 d.standing.holdoff
+is_full d word.Restore ws = nat_lt 0 d.standing.restore
+is_full d word.Statuses ws = nat_lt 0 d.standing.statuses
 is_full d word.Fail ws = nat_le most_windows (length (windows_of d (number_at 0 ws)))
 is_full d word.Lost ws = nat_le most_windows (length d.config.lost)
 is_full d word.Frame ws = nat_lt most_items (items_with d word.Frame ws)
@@ -297,7 +336,7 @@ rest_fault d k ws =
 
 abbrev pub known_fault : Draft → List (List ℕ) → Option Keyword → Option LineFault
 known_fault d ws None = Some wrong.First
-known_fault d ws (Some k) = option_or (place_fault d.next (place k)) (rest_fault d k ws)
+known_fault d ws (Some k) = option_or (place_fault d k) (rest_fault d k ws)
 
 -- of the words of a line
 abbrev pub words_fault : Draft → List (List ℕ) → Option LineFault
@@ -338,49 +377,91 @@ known_said ws (Some k) = said k ws
 abbrev pub words_said : List (List ℕ) → Statement
 words_said ws = if is_skipped ws then says.Nothing else known_said (drop 1 ws) (keyword_of (word_at 0 ws))
 
--- ---- what it adds to what the lines before it say
+-- ---- what it adds, by its number, to what the lines before it say
 abbrev pub after_item : Draft → Item → ItemKind → Draft
 after_item d it (item.Frame octets) = record d { next = 8; items = d.items ++ it ∷ []; frame_due = it.due }
 after_item d it (item.Add line) = record d { next = 8; items = d.items ++ it ∷ []; command_due = it.due }
 after_item d it (item.Remove line) = record d { next = 8; items = d.items ++ it ∷ []; command_due = it.due }
 
-abbrev pub after : Draft → Statement → Draft
-after d says.Nothing = d
-after d (says.Container n) = record d { next = 1; config = record d.config { size = n } }
-after d (says.Lines n) = record d { next = 2; config = record d.config { lines = n; windows = replicate n [] } }
-after d (says.Delays ns) = record d { next = 3; config = record d.config { delays = ns } }
-after d (says.Ring n) = record d { next = 4; config = record d.config { ring = n } }
-after d (says.Lag n) = record d { next = 5; config = record d.config { lag = n } }
-after d (says.Ticks n) = record d { next = 6; config = record d.config { ticks = n } }
-after d (says.Sink infers) = record d {
-  config = record d.config { options = record d.config.options { infers = infers } };
-  has_sink = true;
-}
-after d (says.Holdoff n) = record d {
-  config = record d.config { options = record d.config.options { holdoff = n } };
-  has_holdoff = true;
-}
-after d (says.Restore n) = record d {
-  config = record d.config { options = record d.config.options { restore = n } };
-  has_restore = true;
-}
-after d (says.Statuses n) = record d {
-  config = record d.config { options = record d.config.options { statuses = n } };
-  has_statuses = true;
-}
-after d (says.Fail m window) = record d {
-  next = 7;
-  config = record d.config { windows = slice_set d.config.windows m (windows_of d m ++ window ∷ []) };
-}
-after d (says.Lost first end) =
-    record d { next = 7; config = record d.config { lost = d.config.lost ++ (first, end) ∷ [] } }
-after d (says.Item it) = after_item d it it.kind
-after d (says.Stream rate) = record d {
+abbrev pub after_stream : Draft → Rate → Draft
+after_stream d rate = record d {
   next = 8;
   items = d.items ++ stream_items rate;
   frame_due = due_of rate (count_of rate - 1);
 }
-after d (says.Event e) = record d { next = 9; events = d.events ++ e ∷ [] }
+
+abbrev pub after : ℕ → Draft → Statement → Draft
+after n d says.Nothing = d
+after n d (says.Container size) = record d {
+  next = 1;
+  config = record d.config { size = size };
+  standing = record d.standing { container = n };
+}
+after n d (says.Lines count) = record d {
+  next = 2;
+  config = record d.config { lines = count; windows = replicate count [] };
+  standing = record d.standing { lines = n };
+}
+after n d (says.Delays delays) = record d {
+  next = 3;
+  config = record d.config { delays = delays };
+  standing = record d.standing { delays = n };
+}
+after n d (says.Ring ring) = record d {
+  next = 4;
+  config = record d.config { ring = ring };
+  standing = record d.standing { ring = n };
+}
+after n d (says.Lag lag) = record d {
+  next = 5;
+  config = record d.config { lag = lag };
+  standing = record d.standing { lag = n };
+}
+after n d (says.Ticks ticks) = record d {
+  next = 6;
+  config = record d.config { ticks = ticks };
+  standing = record d.standing { ticks = n };
+}
+after n d (says.Sink infers) = record d {
+  config = record d.config { options = record d.config.options { infers = infers } };
+  standing = record d.standing { sink = n };
+}
+after n d (says.Holdoff packets) = record d {
+  config = record d.config { options = record d.config.options { holdoff = packets } };
+  standing = record d.standing { holdoff = n };
+}
+after n d (says.Restore packets) = record d {
+  config = record d.config { options = record d.config.options { restore = packets } };
+  standing = record d.standing { restore = n };
+}
+after n d (says.Statuses count) = record d {
+  config = record d.config { options = record d.config.options { statuses = count } };
+  standing = record d.standing { statuses = n };
+}
+after n d (says.Fail m window) = record d {
+  next = 7;
+  config = record d.config { windows = slice_set d.config.windows m (windows_of d m ++ window ∷ []) };
+}
+after n d (says.Lost first end) =
+    record d { next = 7; config = record d.config { lost = d.config.lost ++ (first, end) ∷ [] } }
+after n d (says.Item it) = after_item d it it.kind
+after n d (says.Stream rate) = after_stream d rate
+after n d (says.Event e) = record d { next = 9; events = d.events ++ e ∷ [] }
+
+-- no line of the configuration and no option stands
+abbrev pub none_stand : Standing
+none_stand = record {
+  container = 0;
+  lines = 0;
+  delays = 0;
+  ring = 0;
+  lag = 0;
+  ticks = 0;
+  sink = 0;
+  holdoff = 0;
+  restore = 0;
+  statuses = 0;
+}
 
 -- before the first line. The container is a VC-4 where no line says another, and the options are those of a script
 -- without option lines
@@ -402,8 +483,5 @@ at_first = record {
   events = [];
   frame_due = 0;
   command_due = 0;
-  has_sink = false;
-  has_holdoff = false;
-  has_restore = false;
-  has_statuses = false;
+  standing = none_stand;
 }

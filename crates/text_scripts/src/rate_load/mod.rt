@@ -5,4 +5,5 @@
 mod frame_line;
 mod write_rate_text;
 
+pub(crate) use write_rate_text::LONGEST;
 pub use write_rate_text::{is_too_long, write_lines};

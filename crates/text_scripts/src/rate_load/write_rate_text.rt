@@ -9,7 +9,7 @@ use law_rates::{LONGEST_FRAME, Rate, RateCursor, RatePlace};
 use octet_io::{ByteSink, Failed, put_all};
 
 /// The most octets of a text that can be read again.
-const LONGEST: u64 = 67_108_864;
+pub(crate) const LONGEST: u64 = 67_108_864;
 
 /// Room for the line of a frame.
 const LINE_ROOM: usize = 19_264;

@@ -3,11 +3,10 @@ ghost use Rattle.std.specs.Prelude.{◌≡◌, ◌+◌, ◌<◌, ◌≤◌, ◌�
 ghost use Rattle.law_rates.specs.Rates.{IsRate, count_of};
 ghost use Rattle.law_model.specs.Common.{most_items, longest_offer};
 ghost use Rattle.law_model.specs.session.Items.{octets_in_kind};
-ghost use Rattle.text_scripts.specs.script_read.Statements.{after, after_item, at_first};
-ghost use Rattle.text_scripts.specs.declared.script_read.script_draft.Statement.{Statement};
+ghost use Rattle.text_scripts.specs.script_read.Statements.{after, after_item, after_stream, at_first};
 ghost use Rattle.text_scripts.specs.script_read.Drafts.{IsDraft, Fits};
 
-use crate::script_read::script_draft::{Draft, Statement};
+use crate::script_read::script_draft::{Draft, Standing, Statement};
 use crate::window_lists::no_windows;
 use law_model::{
     Config, Delays, EventList, Item, ItemKind, ItemList, LostList, Options, Window, WindowLists,
@@ -47,10 +46,7 @@ pub(super) fn no_lines(alloc: Global) -> Draft
         events: EventList(Vec::new(alloc)),
         frame_due: 0,
         command_due: 0,
-        has_sink: false,
-        has_holdoff: false,
-        has_restore: false,
-        has_statuses: false,
+        standing: Standing::none(),
     }
 }
 
@@ -73,7 +69,7 @@ fn add_item(draft: &mut Draft, item: Item) -> Result<(), AllocError>
 fn add_stream(draft: &mut Draft, rate: &Rate) -> Result<(), AllocError>
     requires sound { IsRate rate.now }
     requires few { length draft.old.items + count_of rate.now ≤ most_items }
-    ensures { OnOk result (draft.new ≡ after draft.old (Statement.Stream rate.now)) }
+    ensures { OnOk result (draft.new ≡ after_stream draft.old rate.now) }
 {
     draft.items.push_stream(rate)?;
     draft.frame_due = draft.items.head(draft.items.len() - 1).due;
@@ -81,54 +77,65 @@ fn add_stream(draft: &mut Draft, rate: &Rate) -> Result<(), AllocError>
     Ok(())
 }
 
-/// Adds what a line says.
-pub(super) fn add(alloc: Global, draft: &mut Draft, said: Statement) -> Result<(), AllocError>
+/// Adds what the line of a number says.
+pub(super) fn add(
+    alloc: Global,
+    draft: &mut Draft,
+    number: u32,
+    said: Statement,
+) -> Result<(), AllocError>
     requires config { IsDraft draft.old }
     requires fits { Fits draft.old said }
-    ensures { OnOk result (draft.new ≡ after draft.old said) }
+    ensures { OnOk result (draft.new ≡ after number draft.old said) }
 {
     match said {
         Statement::Nothing => {}
         Statement::Container(size) => {
             draft.config.size = size;
+            draft.standing.container = number;
             draft.next = 1;
         }
         Statement::Lines(lines) => {
             draft.config.windows = no_windows(alloc, lines)?;
             draft.config.lines = lines;
+            draft.standing.lines = number;
             draft.next = 2;
         }
         Statement::Delays(delays) => {
             draft.config.delays = delays;
+            draft.standing.delays = number;
             draft.next = 3;
         }
         Statement::Ring(ring) => {
             draft.config.ring = ring;
+            draft.standing.ring = number;
             draft.next = 4;
         }
         Statement::Lag(lag) => {
             draft.config.lag = lag;
+            draft.standing.lag = number;
             draft.next = 5;
         }
         Statement::Ticks(ticks) => {
             draft.config.ticks = ticks;
+            draft.standing.ticks = number;
             draft.next = 6;
         }
         Statement::Sink(infers) => {
             draft.config.options.infers = infers;
-            draft.has_sink = true;
+            draft.standing.sink = number;
         }
         Statement::Holdoff(holdoff) => {
             draft.config.options.holdoff = holdoff;
-            draft.has_holdoff = true;
+            draft.standing.holdoff = number;
         }
         Statement::Restore(restore) => {
             draft.config.options.restore = restore;
-            draft.has_restore = true;
+            draft.standing.restore = number;
         }
         Statement::Statuses(statuses) => {
             draft.config.options.statuses = statuses;
-            draft.has_statuses = true;
+            draft.standing.statuses = number;
         }
         Statement::Fail(m, window) => {
             draft.next = 7;

@@ -8,6 +8,7 @@
 
 mod grow_draft;
 mod item_words;
+mod line_place;
 mod network_words;
 mod option_words;
 mod read_statement;
@@ -24,6 +25,6 @@ mod word_count_fault;
 pub use script_fault::{LineFault, ScriptFault, SizesFault};
 pub use script_keyword::{Keyword, Part};
 pub use script_laws::{fault_law, stream_law, valid_law};
-pub use script_limits::limit_fault;
+pub use script_limits::{least_lag, limit_fault};
 pub use script_reader::ScriptReader;
 pub use whole_script::read_script;

@@ -1,13 +1,15 @@
 //! The words of the lines that say what the network is: delays, the container, windows of lines and of the return path.
 ghost use Rattle.std.specs.Prelude.{◌≡◌, ◌≤◌, ◌<◌, length, IfOk, IfErr, None, Some, slice_index_or, []};
-ghost use Rattle.text_lines.specs.WordsOfLine.{words};
+ghost use Rattle.text_lines.specs.WordsOfLine.{words, number_of};
 ghost use Rattle.text_scripts.specs.script_read.Lifted.{IsStop};
 ghost use Rattle.text_scripts.specs.script_read.Statements.{rest_fault, said, last_end, last_lost};
+ghost use Rattle.text_scripts.specs.script_read.Statements.{is_longer, longer_fault};
 ghost use Rattle.text_scripts.specs.script_read.Drafts.{IsDraft, container_fault, delays_fault};
 
 use crate::script_read::script_draft::{Draft, Statement};
 use crate::script_read::script_fault::{LineFault, LineStop};
 use crate::script_read::script_keyword::Keyword;
+use crate::script_read::stream_words::read_digits;
 use crate::script_read::word_count_fault::count_fault;
 use law_model::{
     Delays, LONGEST_DELAY, LONGEST_SLIP, LostList, MOST_PACKETS, MOST_WINDOWS, Window, WindowList,
@@ -90,6 +92,30 @@ fn last_lost_of(list: &LostList) -> u32
     }
 }
 
+/// Whether a word says how much longer a path gets.
+fn is_longer(word: &[u8]) -> bool
+    ensures { result ≡ is_longer word.now }
+{
+    match word {
+        [b'-', digits @ ..] => read_digits(digits, 10).is_some(),
+        _ => false,
+    }
+}
+
+/// How many containers vanish when a failure ends.
+fn read_slip(word: &[u8]) -> Result<u16, LineFault>
+    ensures ok { IfOk result (λ slip. (longer_fault word.now ≡ None) × (slip ≡ number_of word.now)) }
+    ensures err { IfErr result (λ fault. longer_fault word.now ≡ Some fault) }
+{
+    if is_longer(word) {
+        return Err(LineFault::LongerPath);
+    }
+    match number_within(word, 5, 0, LONGEST_SLIP) {
+        Ok(slip) => Ok(slip as u16),
+        Err(fault) => Err(LineFault::Field(fault)),
+    }
+}
+
 /// A window, and the line that has it.
 pub(super) fn read_fail(draft: &Draft, rest: &[u8]) -> Result<Statement, LineFault>
     requires stands { 6 ≤ draft.now.next }
@@ -114,9 +140,9 @@ pub(super) fn read_fail(draft: &Draft, rest: &[u8]) -> Result<Statement, LineFau
         Ok(end) => end,
         Err(fault) => return Err(LineFault::Field(fault)),
     };
-    let slip = match number_within(slip, 5, 0, LONGEST_SLIP) {
+    let slip = match read_slip(slip) {
         Ok(slip) => slip,
-        Err(fault) => return Err(LineFault::Field(fault)),
+        Err(fault) => return Err(fault),
     };
     let windows = windows_at(&draft.config.windows, m);
     if windows.0.len() >= MOST_WINDOWS {
@@ -131,7 +157,7 @@ pub(super) fn read_fail(draft: &Draft, rest: &[u8]) -> Result<Statement, LineFau
         Window {
             first: first as u32,
             end: end as u32,
-            slip: slip as u16,
+            slip,
         },
     ))
 }

@@ -95,19 +95,29 @@ pub(super) fn read_option(
         rest_fault draft.now keyword (words rest.now) ≡ Some fault) }
 {
     match keyword {
-        Keyword::Sink => match read_sink(rest, draft.has_sink) {
+        Keyword::Sink => match read_sink(rest, draft.standing.sink > 0) {
             Ok(infers) => Ok(Statement::Sink(infers)),
             Err(fault) => Err(fault),
         },
-        Keyword::Holdoff => match read_timer(keyword, rest, LONGEST_HOLDOFF, draft.has_holdoff) {
+        Keyword::Holdoff => match read_timer(
+            keyword,
+            rest,
+            LONGEST_HOLDOFF,
+            draft.standing.holdoff > 0,
+        ) {
             Ok(packets) => Ok(Statement::Holdoff(packets as u16)),
             Err(fault) => Err(fault),
         },
-        Keyword::Restore => match read_timer(keyword, rest, LONGEST_RESTORE, draft.has_restore) {
+        Keyword::Restore => match read_timer(
+            keyword,
+            rest,
+            LONGEST_RESTORE,
+            draft.standing.restore > 0,
+        ) {
             Ok(packets) => Ok(Statement::Restore(packets as u16)),
             Err(fault) => Err(fault),
         },
-        Keyword::Statuses => match read_statuses(rest, draft.has_statuses) {
+        Keyword::Statuses => match read_statuses(rest, draft.standing.statuses > 0) {
             Ok(statuses) => Ok(Statement::Statuses(statuses)),
             Err(fault) => Err(fault),
         },

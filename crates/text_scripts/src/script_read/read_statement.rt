@@ -7,11 +7,12 @@ ghost use Rattle.text_scripts.specs.script_read.Drafts.{IsDraft, IsPlaced, one_f
 ghost use Rattle.text_scripts.specs.script_read.Drafts.{says_number, most_of, is_plain};
 
 use crate::script_read::item_words::{read_carry, read_due_line, read_frame};
+use crate::script_read::line_place::check_place;
 use crate::script_read::network_words::{read_container, read_delays, read_fail, read_lost};
 use crate::script_read::option_words::read_option;
 use crate::script_read::script_draft::{Draft, Statement};
 use crate::script_read::script_fault::{LineFault, LineStop};
-use crate::script_read::script_keyword::{Keyword, check_place};
+use crate::script_read::script_keyword::Keyword;
 use crate::script_read::stream_words::read_stream;
 use crate::script_read::word_count_fault::count_fault;
 use law_model::{
@@ -173,7 +174,7 @@ pub(super) fn read_line(alloc: Global, draft: &Draft, line: &[u8]) -> Result<Sta
     let Some(keyword) = Keyword::of(word) else {
         return Err(LineStop::Fault(LineFault::First));
     };
-    match check_place(draft.next, keyword.place()) {
+    match check_place(draft, keyword) {
         Ok(()) => read_rest(alloc, draft, keyword, rest),
         Err(fault) => Err(LineStop::Fault(fault)),
     }

@@ -40,6 +40,31 @@ pub(super) enum Statement {
     Event(EventLine),
 }
 
+/// The number of the line that begins with each word of the configuration and of options, or 0 where none stands.
+#[derive(Clone, Copy)]
+pub(super) struct Standing {
+    /// Of `container`.
+    pub container: u32,
+    /// Of `lines`.
+    pub lines: u32,
+    /// Of `delays`.
+    pub delays: u32,
+    /// Of `ring`.
+    pub ring: u32,
+    /// Of `lag`.
+    pub lag: u32,
+    /// Of `ticks`.
+    pub ticks: u32,
+    /// Of `sink`.
+    pub sink: u32,
+    /// Of `holdoff`.
+    pub holdoff: u32,
+    /// Of `restore`.
+    pub restore: u32,
+    /// Of `statuses`.
+    pub statuses: u32,
+}
+
 /// What the lines of a script so far say.
 #[derive(Drop)]
 pub(super) struct Draft {
@@ -55,12 +80,6 @@ pub(super) struct Draft {
     pub frame_due: u32,
     /// The due tick of the last command.
     pub command_due: u32,
-    /// Whether the option stands that says what the sink does.
-    pub has_sink: bool,
-    /// Whether that stands which says the hold-off.
-    pub has_holdoff: bool,
-    /// Whether that stands which says the wait to restore.
-    pub has_restore: bool,
-    /// Whether that stands which says how statuses are told.
-    pub has_statuses: bool,
+    /// The lines of the configuration and the options that stand.
+    pub standing: Standing,
 }

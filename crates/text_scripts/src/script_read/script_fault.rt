@@ -37,6 +37,8 @@ pub enum LineFault {
     Sizes(SizesFault),
     /// Word 6 isn't a number of one to twenty decimal digits.
     LongNumber,
+    /// Word 5 of a failure says by a minus how much longer a path gets.
+    LongerPath,
     /// This line of the configuration has to stand here.
     Missing(Keyword),
     /// The line is of the part `this`, which stands before `begun`, which has begun.
@@ -44,6 +46,13 @@ pub enum LineFault {
         this: Part,
         begun: Part,
     },
+    /// The line of the configuration, or the option, stands already in line `line`, and a later part has begun.
+    Stands {
+        keyword: Keyword,
+        line: u32,
+    },
+    /// The container stands behind the configuration, which has none.
+    ContainerFirst,
     /// The option stands already.
     Twice(Keyword),
     /// Line `line` of the group has 256 failures already.

@@ -1,11 +1,9 @@
 //! The words that may begin a line, and the place of each in the order of a script.
-ghost use Rattle.std.specs.Prelude.{◌≡◌, IfErr, OnOk, None, Some};
+ghost use Rattle.std.specs.Prelude.{◌≡◌, None, Some};
 ghost use Rattle.text_scripts.specs.script_read.Statements.{keyword_of, option_keyword, item_keyword};
 ghost use Rattle.text_scripts.specs.script_read.Statements.{event_keyword, place};
-ghost use Rattle.text_scripts.specs.script_read.Statements.{awaited, part_of, begun_at, place_fault};
-ghost use Rattle.text_scripts.specs.script_read.Drafts.{IsPlaced};
+ghost use Rattle.text_scripts.specs.script_read.Statements.{awaited, part_of, begun_at};
 
-use crate::script_read::script_fault::LineFault;
 use text_lines::spells;
 
 /// The words that may begin a line, in the order of a script.
@@ -206,7 +204,7 @@ pub(super) fn awaited(next: u8) -> Keyword
 }
 
 /// The part of a place.
-fn part_of(at: u8) -> Part
+pub(super) fn part_of(at: u8) -> Part
     ensures { result ≡ part_of at }
 {
     if at <= 6 {
@@ -222,26 +220,8 @@ fn part_of(at: u8) -> Part
 
 /// The part that has begun where `next` is the next place: behind the configuration that of windows, even where none
 /// stands.
-fn begun_at(next: u8) -> Part
+pub(super) fn begun_at(next: u8) -> Part
     ensures { result ≡ begun_at next }
 {
     part_of(next.max(7))
-}
-
-/// Tests whether a line of the place `at` may stand where `next` is the next place.
-pub(super) fn check_place(next: u8, at: u8) -> Result<(), LineFault>
-    ensures ok { OnOk result (place_fault next at ≡ None) }
-    ensures err { IfErr result (λ fault. place_fault next at ≡ Some fault) }
-    ensures stands { OnOk result (IsPlaced next at) }
-{
-    if next < 6 && at != next && !(next == 0 && at == 1) {
-        return Err(LineFault::Missing(awaited(next)));
-    }
-    if at < next {
-        return Err(LineFault::Part {
-            this: part_of(at),
-            begun: begun_at(next),
-        });
-    }
-    Ok(())
 }

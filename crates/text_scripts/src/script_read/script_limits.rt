@@ -1,7 +1,7 @@
 //! The tests of a script all of whose lines are right: slips, the spread of the lines, and the lag.
-ghost use Rattle.std.specs.Prelude.{◌≡◌, ◌≤◌, length, All, max, None, Some};
-ghost use Rattle.law_model.specs.Common.{AreWindows, greatest, least, greatest_slip as greatest_slip_of, most_lines};
-ghost use Rattle.text_scripts.specs.script_read.Script.{windows_fault, slip_fault, config_fault};
+ghost use Rattle.std.specs.Prelude.{◌≡◌, ◌+◌, ◌/◌, ◌≤◌, length, All, max, None, Some};
+ghost use Rattle.law_model.specs.Common.{AreWindows, greatest, least, greatest_slip as greatest_slip_of, most_lines, IsValid};
+ghost use Rattle.text_scripts.specs.script_read.Script.{windows_fault, slip_fault, least_lag, config_fault};
 ghost use Rattle.text_scripts.specs.script_read.Drafts.{AreFailures};
 ghost use Rattle.text_scripts.specs.script_read.ScriptInPieces.{IsUntested};
 ghost use Rattle.law_model.specs.Common.{most_windows};
@@ -82,6 +82,24 @@ fn least_delay(delays: &Delays) -> u16
     low
 }
 
+/// The least lag in packets of a greatest delay and a greatest slip.
+fn lag_for(slow: u16, slip: u32) -> u32
+    ensures { result ≡ (16 + slow + slip + 15) / 16 }
+{
+    ((16 + u64::from(slow) + u64::from(slip) + 15) / 16) as u32
+}
+
+/// The least lag in packets that the delays and slips of a script allow.
+pub fn least_lag(script: &Script) -> u32
+    requires { IsValid script.now }
+    ensures { result ≡ least_lag script.now.config }
+{
+    lag_for(
+        greatest_delay(&script.config.delays),
+        greatest_of_slips(&script.config.windows),
+    )
+}
+
 /// What is wrong with the slips, the spread or the lag of a network, in this order.
 pub(super) fn fault_of_config(config: &Config) -> Option<ScriptFault>
     requires few { length config.now.windows ≤ most_lines }
@@ -104,7 +122,7 @@ pub(super) fn fault_of_config(config: &Config) -> Option<ScriptFault>
         });
     }
     let lag = config.lag;
-    let least = ((16 + u64::from(slow) + u64::from(slip) + 15) / 16) as u32;
+    let least = lag_for(slow, slip);
     if u32::from(lag) < least {
         return Some(ScriptFault::Lag {
             lag,

@@ -74,7 +74,7 @@ impl ScriptReader {
         ensures number { OnOk result (self.new.number ≡ self.old.number + 1) }
         ensures sound { OnOk result (words_fault self.old.draft (words line.now) ≡ None) }
         ensures adds { OnOk result
-            (self.new.draft ≡ after self.old.draft (words_said (words line.now))) }
+            (self.new.draft ≡ after self.old.number self.old.draft (words_said (words line.now))) }
         ensures fault { IfErr result (λ fault. (fault ≡ ScriptFault.Memory) ⊎
             IsToldAt self.old.number (words_fault self.old.draft (words line.now)) fault) }
     {
@@ -82,7 +82,7 @@ impl ScriptReader {
             Ok(said) => said,
             Err(stop) => return Err(fault_of(self.number, stop)),
         };
-        match add(alloc, &mut self.draft, said) {
+        match add(alloc, &mut self.draft, self.number, said) {
             Ok(()) => {
                 self.number += 1;
                 Ok(())
@@ -212,7 +212,7 @@ impl ScriptReader {
         ensures reader { IfOk result IsReader }
         ensures sound { IfOk result (λ _. words_fault (drafted self) (words line.now) ≡ None) }
         ensures at { IfOk result (λ read. IsAt read (next_number self + 1)
-            (after (drafted self) (words_said (words line.now)))) }
+            (after (next_number self) (drafted self) (words_said (words line.now)))) }
         ensures fault { IfErr result (λ fault. (fault ≡ ScriptFault.Memory) ⊎
             IsToldAt (next_number self) (words_fault (drafted self) (words line.now)) fault) }
     {

@@ -38,7 +38,7 @@ fn next_part(word: &[u8]) -> (&[u8], Option<&[u8]>)
 }
 
 /// The value of so many decimal digits, or fewer, but one.
-fn read_digits(word: &[u8], most: usize) -> Option<u128>
+pub(super) fn read_digits(word: &[u8], most: usize) -> Option<u128>
     requires { most ≤ 20 }
     ensures some { IfSome result (λ n.
         (are_digits most word.now ≡ true) × (n ≡ number_of word.now)) }

@@ -1,6 +1,6 @@
 //! The turns at the group, each under its lock. Client and operator hand in their items ahead, and the source lands
 //! each of them at its due tick, and makes the frames.
-ghost use Rattle.std.specs.Prelude.{◌≡◌, ℕ, ◌≤◌, ◌<◌, ◌↔◌, true, false, Some, IfSome, IfNone};
+ghost use Rattle.std.specs.Prelude.{◌≡◌, ℕ, ◌≤◌, ◌<◌, ◌↔◌, not, true, false, Some, IfSome, IfNone};
 ghost use Rattle.std.specs.Prelude.{length, slice_get};
 ghost use Rattle.std.specs.Option.{is_some};
 ghost use Rattle.law_model.specs.Common.{leg_of, refusal_in};
@@ -10,7 +10,8 @@ ghost use Rattle.thread_group.specs.FaultsAndStops.{has_landed};
 ghost use Rattle.thread_group.specs.Group.{HasCounted, next_brought};
 ghost use Rattle.thread_group.specs.HandedAhead.{handed_below};
 ghost use Rattle.thread_session.specs.session_parts.Flags.{heeded};
-ghost use Rattle.thread_session.specs.session_run.Turns.{bringer, brings, brings_frames, handed_ahead, next_or_greatest};
+ghost use Rattle.thread_session.specs.session_run.Turns.{bringer, brings, brings_frames};
+ghost use Rattle.thread_session.specs.session_run.Turns.{handed_ahead, next_or_greatest};
 ghost use Rattle.thread_session.specs.session_run.Turns.{HasLanded, MayLand};
 
 use crate::session_parts::{Bell, Heed};
@@ -105,7 +106,7 @@ fn is_client(who: Who) -> bool
 }
 
 /// Hands in ahead what this one brings, where what lands next isn't handed in, and gives the number below which it did.
-/// Nothing lands by that, and then what lands next is handed in.
+/// Nothing lands by that, then what lands next is handed in, and of what the others bring as much as before.
 fn hand_in_ahead<Y: Session>(group: &mut BoundGroup<Y>, who: Who, items: &ItemList) -> Option<u32>
     ensures state { group.new.state ≡ group.old.state }
     ensures when { is_some result ≡ true
@@ -116,6 +117,8 @@ fn hand_in_ahead<Y: Session>(group: &mut BoundGroup<Y>, who: Who, items: &ItemLi
     ensures handed { IfSome result (λ below.
         handed_below group.new.handed (brings_frames who) ≡ below) }
     ensures none { IfNone result (group.new.handed ≡ group.old.handed) }
+    ensures other { handed_below group.new.handed (not (brings_frames who))
+        ≡ handed_below group.old.handed (not (brings_frames who)) }
     ensures next { (number : ℕ) → number < 4294967295 →
         next_brought group.old.state (brings_frames who) ≡ Some number →
         number < handed_below group.new.handed (brings_frames who) }
@@ -176,6 +179,8 @@ fn land<Y: Session>(
     ensures handed { (item : Item) → slice_get items.now number ≡ Some item → result ≡ true
         ↔ (number < handed_below group.old.handed (is_client item.kind))
         × MayLand group.old.state number item.kind }
+    ensures counted { (item : Item) → slice_get items.now number ≡ Some item →
+        HasCounted group.old.state group.new.state item.kind result }
     ensures stays { result ≡ false → group.new.state ≡ group.old.state }
 {
     let client = is_client(who_brings(items, number));

@@ -1,5 +1,5 @@
 //! All threads of a session beside each other.
-ghost use Rattle.std.specs.Prelude.{◌≡◌, ◌<◌, ◌≤◌, ◌⊎◌, List, [], length, vec_len, IfSome, IsTrue, vec_capacity};
+ghost use Rattle.std.specs.Prelude.{◌≡◌, ◌<◌, ◌≤◌, ◌⊎◌, ◌↔◌, List, [], length, vec_len, IfSome, IsTrue, vec_capacity};
 ghost use Rattle.std.specs.Global.{Vec};
 ghost use Rattle.thread_alarms.specs.declared.watched_line.served_line.ServedLine.{ServedLine};
 ghost use Rattle.thread_session.specs.session_parts.Duty.{Begun};
@@ -87,7 +87,8 @@ fn turn_here<R: Wait, G: Gate, D: Duty>(
     held: &mut Vec<Held>,
 ) -> Turned
     ensures duty { (begun : Begun) → D.stands_for duty.old begun → D.stands_for duty.new begun }
-    ensures over { result ≡ Turned.Over → D.is_over duty.new }
+    ensures over { (result ≡ Turned.Over) ↔ D.is_over duty.old }
+    ensures stays { D.is_over duty.old → D.is_over duty.new }
     ensures told { (flags : List OwnFlag) → AreToldBy flags held.old.items →
         AreToldBy flags held.new.items }
     ensures held { (shares : List (Vec ServedLine)) → AreHeldOf shares held.old.items →

@@ -63,6 +63,9 @@ returns-in-Trace g c = rw c.in-Trace.is c.trace.ensures
 pub returns-in-Pair : goal.returns-in-Pair
 returns-in-Pair g c = rw c.in-Pair.is c.pair.ensures
 
+pub returns-in-OneWay : goal.returns-in-OneWay
+returns-in-OneWay g c = rw c.in-OneWay.is (alone _ _ _ _ _ _ refl c.one_way.ensures)
+
 pub returns-in-Live : goal.returns-in-Live
 returns-in-Live g c = rw c.in-Live.is (c.live.ensures, refl)
 

@@ -29,8 +29,8 @@ returns-in-Ok g c =
       headline = some-command _ (command_in c.args.words.now) c.in-Ok.command known
           (λ runs. headline-of _ _ _ _ c.in-Ok.command runs own);
       ways = λ is. tells-pair _ _ _ _ (subst P (let same : Some c.in-Ok.command ≡ Some Pair = cc in same) own);
-      live = λ trace is.
-          tells-live _ _ _ trace _ (subst P (let same : Some c.in-Ok.command ≡ Some (Live trace) = cc in same) own);
+      live = λ asked is.
+          tells-live _ _ _ asked _ (subst P (let same : Some c.in-Ok.command ≡ Some (Live asked) = cc in same) own);
       handed = some-command _ (command_in c.args.words.now) c.in-Ok.command known
           (λ at. rw c.end_of.ensures.walk (run-for _ _ _ _ c.args.notes.now c.run.new.notes c.end_of.new.notes _ _
           (task_at c.in-Ok.command)

@@ -14,7 +14,7 @@ pub loop-frame-init : goal.loop-frame-init
 loop-frame-init c = (
   [],
   taken-begun (leg_of c.args.walk.now.script) c.args.walk.now.counts c.new-cursor.result c.in_ok-landed.landed
-      c.new-cursor.ensures.at c.new-cursor.ensures.first c.in_ok-landed.ensures,
+      c.new-cursor.ensures.at c.new-cursor.ensures.first c.in_ok-landed.ensures.landed,
 )
 
 pub take_frame-requires : goal.take_frame-requires

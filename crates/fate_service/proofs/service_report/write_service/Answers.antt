@@ -1,7 +1,7 @@
 -- The lines are written, or a part of them up to a write that failed.
 use Rattle.std.proofs.Common.{rules, ◌≡◌, ℕ, List, [], All, map, sym, ◌∙◌, ap, ap₂, subst, OnOk, OnErr, arith}
 use Rattle.std.specs.List.{flat_map, range_with_len}
-use Rattle.law_model.specs.Common.{Start, Appends, AppendsPart, leg_of, scenario_by, width, most_ticks}
+use Rattle.law_model.specs.Common.{Start, Appends, AppendsPart, greatest, leg_of, scenario_by, width, most_ticks}
 use Rattle.law_model.specs.declared.script_types.Script.{Script}
 use Rattle.law_model.specs.declared.session_totals.Totals.{Totals}
 use Rattle.text_got.specs.TextSoFar.{HasText, name_of, start_at}
@@ -53,6 +53,8 @@ returns g c =
     let f : ℕ → ℕ = width (scenario_by leg) (session_of leg) in
     let members : ℕ → ℕ → List ℕ = λ (size rows : ℕ). flat_map (members_text size) (runs_of (map f (range_with_len 0 rows))) in
     let size = ap (λ (own : Script). own.config.size) c.script.ensures.script in
+    let path : c.greatest_delay-path.result ≡ greatest leg.config.delays =
+    c.greatest_delay-path.ensures ∙ ap (λ (own : Script). greatest own.config.delays) c.script.ensures.script in
     let taken = ap (λ (t : Totals). t.taken) c.totals-totals.ensures in
     let ticks = ap (λ (t : Totals). t.ticks) c.totals-totals.ensures in
     let is : told ≡ told_of leg s = c.told_ticks-told.ensures.told
@@ -69,7 +71,7 @@ returns g c =
     (ap (outages_text (row_cause (scenario_by leg) (session_of leg)) (carried_of (ended_of leg s)) s.rows)
     c.requires.survey.outages)
     (ap (λ n. stretches_text known (spans_of interval n)) is)
-    (ap (λ l. delays_text (delays_of l)) c.requires.survey.landed.carried)
+    (ap₂ (λ l p. delays_text (delays_of l) p) c.requires.survey.landed.carried path)
     (ap (λ n. last_text n (stretch_of known 0 n) (ends_of leg s)) is)) five in
     let N : ℕ → Type 0 = λ n. HasText g.K.ByteSink.written g.K.ByteSink.faults c.write_end.new.got
     (start_at g.K.ByteSink.written g.K.ByteSink.faults c.args.out.now n) text in

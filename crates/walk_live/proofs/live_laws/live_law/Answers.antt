@@ -5,8 +5,8 @@ use Rattle.walk_live.proofs.live_laws.live_law.Goals as goal
 pub returns : goal.returns
 returns c =
     record {
-      answers = λ steps octets. (course_spoken steps octets).said;
-      fine = λ steps octets. (course_spoken steps octets).fine;
+      answers = λ asked octets. (course_spoken asked octets).said;
+      fine = λ asked octets. (course_spoken asked octets).fine;
       grows = answered_grows;
       walk = walk_of;
       headline = live_headline;

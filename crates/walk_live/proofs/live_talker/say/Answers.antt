@@ -12,14 +12,14 @@ abbrev said_by : List ℕ → LiveLine → List Saying
 said_by frame says = saying_of (told_line frame says)
 
 pub returns-in-Blank-clause-answers : goal.returns-in-Blank-clause-answers
-returns-in-Blank-clause-answers g c steps config said is well =
+returns-in-Blank-clause-answers g c asked config said is well =
     let none : said_by c.args.frame.now c.args.says ≡ [] = elim c.in-Blank.is [
       | inl blank ↦ ap (said_by c.args.frame.now) blank
       | inr set ↦ ap (said_by c.args.frame.now) set
     ] in
-    quiet_more g.K.ByteSink.written g.K.ByteSink.faults c.args.out.now c.args.block.now c.args.walk.now steps config said
-    (said_by c.args.frame.now c.args.says) [] none (still_answered c.args.walk.now steps config said is)
-    (none_answered steps (leg_said config (said ++ [])) said)
+    quiet_more g.K.ByteSink.written g.K.ByteSink.faults c.args.out.now c.args.block.now c.args.walk.now asked config said
+    (said_by c.args.frame.now c.args.says) [] none (still_answered c.args.walk.now asked config said is)
+    (none_answered asked (leg_said config (said ++ [])) said)
 
 pub returns-in-Frame : goal.returns-in-Frame
 returns-in-Frame g c =
@@ -64,17 +64,17 @@ returns-in-Pass g c =
     }
 
 pub returns-in-Cut-clause-answers : goal.returns-in-Cut-clause-answers
-returns-in-Cut-clause-answers g c steps config said is well =
+returns-in-Cut-clause-answers g c asked config said is well =
     let same = ap (said_by c.args.frame.now) c.in-Cut.is in
-    quiet_more g.K.ByteSink.written g.K.ByteSink.faults c.args.out.now c.args.block.now c.cut.new.self steps config said
+    quiet_more g.K.ByteSink.written g.K.ByteSink.faults c.args.out.now c.args.block.now c.cut.new.self asked config said
     (said_by c.args.frame.now c.args.says) (cuts c.in-Cut.line ∷ []) same
-    (c.cut.ensures steps config said is (well_as config said _ _ same well))
-    (cut_answered steps (leg_said config (said ++ cuts c.in-Cut.line ∷ [])) said c.in-Cut.line)
+    (c.cut.ensures asked config said is (well_as config said _ _ same well))
+    (cut_answered asked (leg_said config (said ++ cuts c.in-Cut.line ∷ [])) said c.in-Cut.line)
 
 pub returns-in-Mend-clause-answers : goal.returns-in-Mend-clause-answers
-returns-in-Mend-clause-answers g c steps config said is well =
+returns-in-Mend-clause-answers g c asked config said is well =
     let same = ap (said_by c.args.frame.now) c.in-Mend.is in
-    quiet_more g.K.ByteSink.written g.K.ByteSink.faults c.args.out.now c.args.block.now c.mend.new.self steps config said
+    quiet_more g.K.ByteSink.written g.K.ByteSink.faults c.args.out.now c.args.block.now c.mend.new.self asked config said
     (said_by c.args.frame.now c.args.says) (mends c.in-Mend.line ∷ []) same
-    (c.mend.ensures steps config said is (well_as config said _ _ same well))
-    (mend_answered steps (leg_said config (said ++ mends c.in-Mend.line ∷ [])) said c.in-Mend.line)
+    (c.mend.ensures asked config said is (well_as config said _ _ same well))
+    (mend_answered asked (leg_said config (said ++ mends c.in-Mend.line ∷ [])) said c.in-Mend.line)

@@ -1,8 +1,9 @@
 -- One more packet of the last run, or of a new one.
-use Rattle.std.proofs.Common.{◌≡◌, ◌-◌, ◌<◌, suc, length, Some, slice_get, sym, ◌∙◌, ap, ap₂, subst, arith}
+use Rattle.std.proofs.Common.{◌≡◌, ◌-◌, ◌<◌, suc, List, length, Some, slice_get, sym, ◌∙◌, ap, ap₂, subst, arith}
 use Rattle.law_model.proofs.ListLaws.{at-index}
-use Rattle.fate_engine.specs.Common.{ArePacketRuns}
-use Rattle.fate_engine.proofs.PacketRowPlaceLaws.{longer-active, longer-runs, with-run}
+use Rattle.fate_engine.specs.Common.{AreApart, ArePacketRuns}
+use Rattle.fate_engine.proofs.PacketRowPlaceLaws.{longer-active, longer-runs, with-run, apart-longer, apart-new}
+use Rattle.fate_engine.specs.declared.fate_core.packet_rows.Run.{Run}
 use Rattle.fate_engine.proofs.fate_core.packet_rows.add_packet.Goals as goal
 
 some : (c : goal.After-runs-1) → 0 < length c.args.runs.now.items
@@ -34,3 +35,15 @@ returns-clause-begin c = λ size are start.
     (with-run size c.args.runs.now.items
     (record { lines = c.args.lines; packets = 1; row = c.args.row; start = c.args.start }) are
     (record { narrow = c.requires.lines; row = c.requires.row; start = start }))
+
+pub returns-then-goes_on-clause-longest : goal.returns-then-goes_on-clause-longest
+returns-then-goes_on-clause-longest c =
+    apart-longer c.args.runs.now.items (c.len-last.result - 1) c.index_mut.result.now (count c) (there c)
+
+pub returns-clause-longest : goal.returns-clause-longest
+returns-clause-longest c = λ are.
+    subst AreApart (sym c.in_ok-push.ensures.items)
+    (apart-new c.args.runs.now.items
+    (record { lines = c.args.lines; packets = 1; row = c.args.row; start = c.args.start })
+    (λ last there. c.goes_on.ensures.other last c.if-goes_on.false
+    (ap₂ slice_get c.deref.ensures.value (ap (λ (l : List Run). length l - 1) c.deref.ensures.value) ∙ there)) are)

@@ -13,5 +13,5 @@ returns c =
       walks = nothing-walks config c.in_ok-walk.walk c.requires made.stands made.counts made.windows;
       lines = refl;
       items = nothing-items config;
-      steps = refl;
+      tells = refl;
     }

@@ -10,63 +10,63 @@ use Rattle.walk_live.proofs.answered_walk.AnsweredWalk.pass.Goals as goal
 
 pub overflow_add-until : goal.overflow_add-until
 overflow_add-until g c =
-    let (steps, config, said, is, well) = c.requires in
-    let few = pass-few c.args.self.now steps config said is c.args.ticks well in
+    let (asked, config, said, is, well) = c.requires in
+    let few = pass-few c.args.self.now asked config said is c.args.ticks well in
     let most = is.network.ticks.1 in
-    let ticks = c.ticks.ensures ∙ now-ticks c.args.self.now steps config said is in
+    let ticks = c.ticks.ensures ∙ now-ticks c.args.self.now asked config said is in
     omega (arith, few, most, ticks)
 
 pub make_rounds-requires : goal.make_rounds-requires
 make_rounds-requires g c =
-    let (steps, config, said, is, well) = c.requires in (
-      steps,
+    let (asked, config, said, is, well) = c.requires in (
+      asked,
       config,
       said,
       c.args.ticks,
-      can-pass c.args.self.now steps config said is c.args.ticks well
+      can-pass c.args.self.now asked config said is c.args.ticks well
           (c.ticks.result + c.args.ticks) (ap (λ n. n + c.args.ticks) c.ticks.ensures),
     )
 
 pub returns-in-Ok-clause-answers : goal.returns-in-Ok-clause-answers
-returns-in-Ok-clause-answers g c steps config said is well =
+returns-in-Ok-clause-answers g c asked config said is well =
     let self = c.args.self.now in
-    let can = can-pass self steps config said is c.args.ticks well (c.ticks.result + c.args.ticks)
+    let can = can-pass self asked config said is c.args.ticks well (c.ticks.result + c.args.ticks)
     (ap (λ n. n + c.args.ticks) c.ticks.ensures) in
     let P : List ℕ → Type 0 = λ text. Holds g.K.ByteSink.written g.K.ByteSink.faults c.args.out.now c.tell_now.new.out
     c.tell_now.new.block (c.args.block.now ++ text) in
     on_ok_weaker c.tell_now.result
     (λ told. record {
-      is = pass-answered self steps config said is c.args.ticks well c.make_rounds.new.self c.make_rounds.ensures.same
-          (c.in-Ok.ensures.walks steps config said c.args.ticks can);
+      is = pass-answered self asked config said is c.args.ticks well c.make_rounds.new.self c.make_rounds.ensures.same
+          (c.in-Ok.ensures.walks asked config said c.args.ticks can);
       holds = subst P
-          (pass-answer self steps config said is c.args.ticks well (c.ticks.result + c.args.ticks) can.ends)
+          (pass-answer self asked config said is c.args.ticks well (c.ticks.result + c.args.ticks) can.ends)
           (holds-more g.K.ByteSink.written g.K.ByteSink.faults c.args.out.now c.make_rounds.new.out c.tell_now.new.out
           c.args.block.now c.make_rounds.new.block c.tell_now.new.block _ _
-          (c.in-Ok.ensures.told steps config said c.args.ticks can) told);
+          (c.in-Ok.ensures.told asked config said c.args.ticks can) told);
     })
     c.tell_now.ensures.told
 
 pub returns-in-Ok-clause-part : goal.returns-in-Ok-clause-part
-returns-in-Ok-clause-part g c steps config said is well =
+returns-in-Ok-clause-part g c asked config said is well =
     let self = c.args.self.now in
-    let can = can-pass self steps config said is c.args.ticks well (c.ticks.result + c.args.ticks)
+    let can = can-pass self asked config said is c.args.ticks well (c.ticks.result + c.args.ticks)
     (ap (λ n. n + c.args.ticks) c.ticks.ensures) in
     let P : List ℕ → Type 0 = λ text. AppendsPart g.K.ByteSink.written g.K.ByteSink.faults c.args.out.now
     c.tell_now.new.out (c.args.block.now ++ text) in
     on_err_weaker c.tell_now.result
     (λ stops. subst P
-    (pass-answer self steps config said is c.args.ticks well (c.ticks.result + c.args.ticks) can.ends)
+    (pass-answer self asked config said is c.args.ticks well (c.ticks.result + c.args.ticks) can.ends)
     (part-more g.K.ByteSink.written g.K.ByteSink.faults c.args.out.now c.make_rounds.new.out c.tell_now.new.out
-    c.args.block.now c.make_rounds.new.block _ _ (c.in-Ok.ensures.told steps config said c.args.ticks can) stops))
+    c.args.block.now c.make_rounds.new.block _ _ (c.in-Ok.ensures.told asked config said c.args.ticks can) stops))
     c.tell_now.ensures.part
 
 pub returns-in-Err-clause-part : goal.returns-in-Err-clause-part
-returns-in-Err-clause-part g c steps config said is well =
+returns-in-Err-clause-part g c asked config said is well =
     let self = c.args.self.now in
-    let can = can-pass self steps config said is c.args.ticks well (c.ticks.result + c.args.ticks)
+    let can = can-pass self asked config said is c.args.ticks well (c.ticks.result + c.args.ticks)
     (ap (λ n. n + c.args.ticks) c.ticks.ensures) in
     let P : List ℕ → Type 0 = λ text. AppendsPart g.K.ByteSink.written g.K.ByteSink.faults c.args.out.now
     c.make_rounds.new.out (c.args.block.now ++ text) in
-    subst P (pass-answer self steps config said is c.args.ticks well (c.ticks.result + c.args.ticks) can.ends)
+    subst P (pass-answer self asked config said is c.args.ticks well (c.ticks.result + c.args.ticks) can.ends)
     (part-longer g.K.ByteSink.written g.K.ByteSink.faults c.args.out.now c.make_rounds.new.out c.args.block.now _
-    (now_text (c.ticks.result + c.args.ticks)) (c.in-Err.ensures.part steps config said c.args.ticks can))
+    (now_text (c.ticks.result + c.args.ticks)) (c.in-Err.ensures.part asked config said c.args.ticks can))

@@ -14,7 +14,7 @@ say-requires g c =
     let own = answering c.args.self.now heard line c.args.says c.in-Some.walk has c.in-Some.is in
     let ls : List (List ℕ) = heard.lines ++ line ∷ [] in
     let config = (said_in ls).settings.config in (
-      c.args.self.now.steps,
+      c.args.self.now.tells,
       config,
       sayings heard.lines,
       own.is,

@@ -15,7 +15,7 @@ unreachable-requires c =
     let (heard, is) = c.requires in
     let config = (said_in heard.lines).settings.config in
     let hands = c.in_default.ensures.config (length heard.lines + 1) (said_in heard.lines) is.at in
-    walk_missing c.open.new.walk c.args.self.now.steps config (sayings heard.lines) c.in-None.is
+    walk_missing c.open.new.walk c.args.self.now.tells config (sayings heard.lines) c.in-None.is
     (c.in-Ok.ensures.opens config (sayings heard.lines)
     (end_can c.args.self.now c.take_config-config.result heard is
     (λ none. c.take_config-config.ensures.config ∙ hands none)))
@@ -24,12 +24,12 @@ pub returns-clause-totals : goal.returns-clause-totals
 returns-clause-totals c heard is =
     let config = (said_in heard.lines).settings.config in
     let hands = c.in_default.ensures.config (length heard.lines + 1) (said_in heard.lines) is.at in
-    let answered = walk_there c.open.new.walk c.in-Some.walk c.args.self.now.steps config (sayings heard.lines)
+    let answered = walk_there c.open.new.walk c.in-Some.walk c.args.self.now.tells config (sayings heard.lines)
     c.in-Some.is
     (c.in-Ok.ensures.opens config (sayings heard.lines)
     (end_can c.args.self.now c.take_config-config.result heard is
     (λ none. c.take_config-config.ensures.config ∙ hands none))) in
     totals_told c.args.self.now heard c.totals.result is
     (c.in_default.ensures.whole (length heard.lines + 1) (said_in heard.lines) is.at)
-    (c.totals.ensures c.args.self.now.steps config (sayings heard.lines) (leg_in heard.lines) answered
+    (c.totals.ensures c.args.self.now.tells config (sayings heard.lines) (leg_in heard.lines) answered
     (leg_of_all c.args.self.now heard c.in-Some.walk is answered))

@@ -30,6 +30,7 @@ invariant_of-self-2 c =
     grown c.self.inside.size c.self.inside.runs.items c.self.inside.count c.self.inside.end c.self.invariant
     c.add_packet.new.runs.items c.args.active.items (c.from.result * c.len.result * c.from-2.result)
     (c.in_ok-add_packet.ensures.begin c.self.inside.size c.self.invariant.begin c.self.invariant.ends)
+    (c.in_ok-add_packet.ensures.longest c.self.invariant.longest)
     c.in_ok-add_packet.ensures.active
     (let few = c.requires in let all = c.self.invariant.all in
     omega (arith, few, all, ap (λ p. length p.active) c.self.view_is))

@@ -16,7 +16,7 @@ returns-then-divides c =
       sound = if_ok c.divide.result _ _ c.divide.ensures.whole
           (λ read whole. sym (divide_fault h ws c.if-divides.ensures) ∙ ap (option_map of_script) whole);
       at = if_ok c.divide.result _ _ c.divide.ensures.at
-          (λ read at. record { number = at.number; halves = at.halves ∙ divide_after h ws c.if-divides.ensures });
+          (λ read at. record { number = at.number; halves = at.halves ∙ divide_after (line_at c.args.self) h ws c.if-divides.ensures });
       fault = if_err c.divide.result _ _ c.divide.ensures.fault
           (λ f told. inr (subst (λ (o : Option HalfFault). IsPairToldAt (line_at c.args.self) o f)
           (divide_fault h ws c.if-divides.ensures) told));
@@ -31,7 +31,7 @@ returns-in-Ok c =
       sound = sym (plain_fault h ws c.if-divides.ensures) ∙ ap (option_map of_script) c.in-Ok.ensures.sound;
       at = record {
         number = c.in-Ok.ensures.at.number;
-        halves = plain_at h ws c.in-Ok.reader c.if-divides.ensures c.in-Ok.ensures.at.draft;
+        halves = plain_at (line_at c.args.self) h ws c.in-Ok.reader c.if-divides.ensures c.in-Ok.ensures.at.draft;
       };
       fault = tt;
     }

@@ -22,10 +22,10 @@ returns-in-Ok-add-clause-reader c =
     let fits = fits_words c.args.self.now.draft (words c.args.line.now) c.requires.reader.draft c.in-Ok.ensures.ok.0 in
     record {
       draft = subst IsDraft (sym c.in-Ok-add.ensures)
-          (IsDraft-after c.args.self.now.draft c.in-Ok.said c.requires.reader.draft
+          (IsDraft-after c.args.self.now.number c.args.self.now.draft c.in-Ok.said c.requires.reader.draft
           (subst (λ (said : Statement). Fits c.args.self.now.draft said) (sym c.in-Ok.ensures.ok.1) fits));
     }
 
 pub returns-in-Ok-add-clause-adds : goal.returns-in-Ok-add-clause-adds
 returns-in-Ok-add-clause-adds c =
-    c.in-Ok-add.ensures ∙ ap (λ (said : Statement). after c.args.self.now.draft said) c.in-Ok.ensures.ok.1
+    c.in-Ok-add.ensures ∙ ap (λ (said : Statement). after c.args.self.now.number c.args.self.now.draft said) c.in-Ok.ensures.ok.1

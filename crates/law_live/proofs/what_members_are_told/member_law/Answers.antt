@@ -1,0 +1,15 @@
+-- By decision steps.
+use Rattle.law_live.proofs.ToldMemberLaws.{step-ticks, told-differ, told-last, told-step}
+use Rattle.law_live.proofs.what_members_are_told.member_law.Goals as goal
+
+pub returns-clause-times : goal.returns-clause-times
+returns-clause-times c = step-ticks
+
+pub returns-clause-differ : goal.returns-clause-differ
+returns-clause-differ c = told-differ
+
+pub returns-clause-step : goal.returns-clause-step
+returns-clause-step c = told-step
+
+pub returns-clause-last : goal.returns-clause-last
+returns-clause-last c = told-last

@@ -1,0 +1,32 @@
+-- Some digits more.
+use Rattle.std.proofs.Common.{◌≤◌, ◌-◌, ◌∙◌, ◌++◌, take, drop, sym, ap, subst, arith, append_assoc}
+use Rattle.hex.specs.Hex.{encode_lower}
+use Rattle.text_got.specs.TextSoFar.{HasText}
+use Rattle.text_scripts.proofs.ScriptTextGrowthLaws.{digits-none, digits-then}
+use Rattle.text_scripts.proofs.script_text.text_out.put_digits.Goals as goal
+
+pub loop-at-init : goal.loop-at-init
+loop-at-init g c = record {
+  within = omega arith;
+  room = omega arith;
+  grows = λ start before has. subst (HasText g.K.ByteSink.written g.K.ByteSink.faults c.args.got.now start)
+      (digits-none before) has;
+}
+
+pub loop-at-preserved : goal.loop-at-preserved
+loop-at-preserved g c =
+    let octets = c.args.octets.now in
+    let at = c.loop-at.at in
+    let end = c.min-end.result in
+    let low : at ≤ end = omega (arith, c.min-end.ensures, c.loop-at-test.true) in
+    record {
+      within = omega (arith, c.min-end.ensures);
+      room = omega (arith, c.put_piece.auto.room, c.loop-at.invariant.room);
+      grows =
+          λ start before has.
+          subst (HasText g.K.ByteSink.written g.K.ByteSink.faults c.put_piece.new.got start)
+          (append_assoc before (encode_lower (take at octets)) (encode_lower (take (end - at) (drop at octets)))
+          ∙ ap (λ l. before ++ l) (sym (digits-then octets at end low)))
+          (c.put_piece.ensures start (before ++ encode_lower (take at octets))
+          (c.loop-at.invariant.grows start before has));
+    }

@@ -1,0 +1,10 @@
+-- The return windows so far.
+use Rattle.std.proofs.Common.{take}
+use Rattle.std.specs.List.{flat_map}
+use Rattle.text_scripts.specs.script_text.ScriptText.{lost_line}
+use Rattle.text_scripts.specs.script_text.TextOuts.{Adds}
+use Rattle.text_scripts.proofs.script_text.write_script_text.add_losses.Given as goal
+
+abbrev pub invariant-loop-window : goal.invariant-loop-window
+invariant-loop-window g l =
+    Adds g.T.TextOut.stands_for l.fn.out l.out (flat_map lost_line (take l.window-index l.lost))
