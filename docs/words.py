@@ -37,6 +37,12 @@ def rows(table):
     return [line.split(" | ") if " | " in line else line.split() for line in body.splitlines()]
 
 
+def forms_of(form):
+    """A form without the word that may be left out, and with each that may stand there."""
+    match = re.search(r" \[(.*)\]", form)
+    return {form.replace(match[0], word) for word in ("", *(" " + word for word in match[1].split("|")))} if match else {form}
+
+
 def main():
     commands = [(crate, form.removesuffix(" FILE")) for crate, form, _ in rows("commands")]
     numbers = {name for name, _, _ in rows("ranges")}
@@ -45,13 +51,13 @@ def main():
         mine = set()
         for crate, form in commands:
             if crate == program and form.split()[0] not in ("view", "report", "phases"):
-                mine |= {re.sub(r" \[\w+\]", "", form), re.sub(r"[\[\]]", "", form)}
+                mine |= forms_of(form)
         compare(f"the commands of {program} in vcat", mine, re.split(r", or |, | or ", usage))
         for word in re.findall(r"\b[A-Z]+\b", usage):
             if word not in numbers:
                 faults.append(f"words: vcat has no range of {word}")
-    for _, form in commands:
-        if not re.search(rf"^\| `{re.escape(form)}`|`\./vcat {form.split()[0]}\b", text("docs/COMMANDS.md").replace("live`, `live trace", "live [trace]"), flags=re.M):
+    for form in (each for _, form in commands for each in forms_of(form)):
+        if not re.search(rf"^\| [^|]*`{re.escape(form)}`|`\./vcat {form.split()[0]}\b", text("docs/COMMANDS.md"), flags=re.M):
             faults.append(f"words: docs/COMMANDS.md doesn't tell of {form}")
     for language, place in KEYWORDS.items():
         mine = {form.split()[0] for languages, form, _ in rows("forms") if language in languages.split()}
