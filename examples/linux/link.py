@@ -99,21 +99,31 @@ def find_missing(run: str | None) -> str | None:
     return f"there is no {absent[0]}" if absent else None
 
 
+def ip(words: str) -> str:
+    """Runs `ip`, which no signal ends on the way."""
+    before = signal.pthread_sigmask(signal.SIG_BLOCK, SIGNALS)
+    try:
+        return subprocess.run(["ip", *words.split()], stdout=subprocess.PIPE, text=True, check=True).stdout
+    finally:
+        signal.pthread_sigmask(signal.SIG_SETMASK, before)
+
+
 class Namespace:
     """A network namespace with a TAP device."""
 
     def __init__(self, letter: str, number: int) -> None:
         self.name = f"vcat-{letter}-{os.getpid()}"
         self.address, self.hardware = f"10.77.0.{number}", f"02:00:00:00:00:{number:02x}"
-        self.tap = -1
+        self.is_made, self.tap = False, -1
 
     def make(self) -> None:
-        self.ip("netns add", self.name)
+        ip(f"netns add {self.name}")
+        self.is_made = True
         self.tap = os.open(TUN, os.O_RDWR | os.O_NONBLOCK | os.O_CLOEXEC)
-        device = f"{self.name[:6]}{os.getpid()}"
+        device = f"vcat{os.getpid()}"
         fcntl.ioctl(self.tap, TUNSETIFF, struct.pack("16sH22x", device.encode(), IFF_TAP | IFF_NO_PI))
         # The device goes into the namespace, and what is open stays its other end.
-        self.ip("link set", device, "netns", self.name, "name tap0")
+        ip(f"link set {device} netns {self.name} name tap0")
         self.inside("link set lo up")
         # Without an address of IPv6 the system sends nothing of its own.
         self.inside(f"link set tap0 address {self.hardware} addrgenmode none txqueuelen {MOST_FRAMES}")
@@ -124,21 +134,17 @@ class Namespace:
         self.inside(f"neighbour replace {other.address} lladdr {other.hardware} dev tap0 nud permanent")
 
     def inside(self, words: str) -> None:
-        self.ip("-n", self.name, words)
-
-    @staticmethod
-    def ip(*words: str) -> None:
-        subprocess.run(["ip", *" ".join(words).split()], check=True)
+        ip(f"-n {self.name} {words}")
 
     def remove(self) -> None:
-        """Ends what runs in it, and deletes it; nothing if it was never made."""
-        inhabitants = subprocess.run(["ip", "netns", "pids", self.name], capture_output=True, text=True).stdout.split()
-        for process in inhabitants:
-            with contextlib.suppress(ProcessLookupError):
-                os.kill(int(process), signal.SIGKILL)
+        """Ends what runs in it, and deletes it."""
         if self.tap >= 0:
             os.close(self.tap)
-        subprocess.run(["ip", "netns", "delete", self.name], stderr=subprocess.DEVNULL)
+        if self.is_made:
+            for process in ip(f"netns pids {self.name}").split():
+                with contextlib.suppress(ProcessLookupError):
+                    os.kill(int(process), signal.SIGKILL)
+            ip(f"netns delete {self.name}")
 
 
 @dataclass
