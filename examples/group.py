@@ -91,7 +91,7 @@ class Group:
             self.say(line)
 
     def say(self, line: str) -> int:
-        """Says a line, which is sent once ticks pass. Items, which are frames and commands, are counted from 0: the number of the next is given."""
+        """Says a line, which is sent once ticks pass, and gives the number of the item that it is: frames and commands are counted from 0."""
         octets = line.encode() + b"\n"
         self.said.write(octets)
         self.unsent += octets

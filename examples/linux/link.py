@@ -269,8 +269,10 @@ class Link:
             time.sleep(max(0, next_turn - time.monotonic()))
 
     def drain(self) -> None:
-        """Lets what is under way come out."""
-        self.let_pass(min(max(self.options.setting.delays) + STEP, self.options.setting.ticks - self.ticks))
+        """Lets what is under way come out, as far as ticks are left."""
+        ticks = min(max(self.options.setting.delays) + STEP, self.options.setting.ticks - self.ticks)
+        if ticks:
+            self.let_pass(ticks)
 
     def sum_up(self) -> None:
         """Says what there was, once the pair has ended."""
