@@ -84,8 +84,7 @@ class Group:
         for pipe in self.input, self.output:
             os.set_blocking(pipe.fileno(), False)  # these ends alone: those of the process have to block
         self.unsent, self.unread = bytearray(), b""
-        self.items = 0
-        self.queue, self.new_frames = 0, 0
+        self.items = self.queue = self.new_frames = 0
         self.is_passing, self.answers = False, Answers()
         for line in setting.lines():
             self.say(line)
