@@ -55,18 +55,17 @@ def sections():
 
 def crates():
     """docs/CRATES.md."""
-    found, uses = sections()
-    count = {name: sum(name in others for others in uses.values()) for name in uses}
+    found, _ = sections()
     lines = [
         "# Crates",
         "",
-        "Written by `docs/lists.py` from `crates.txt` and from the heads of crates; change those and not this page. The section is the first word of a",
-        "name. The number tells how many crates use one. If a crate has several layers, its head lists its modules.",
+        "`docs/lists.py` writes this page from `crates.txt` and from the heads of crates: change those. The section is the first word of a name. If a crate has",
+        "several layers, its head lists its modules.",
     ]
     for section, what, names in found:
         lines += ["", f"## {section}: {what}", ""]
         for name in names:
-            lines.append(f"- **`{name}`** ({count[name]}): {about(name)}.")
+            lines.append(f"- **`{name}`**: {about(name)}.")
     return "\n".join(lines) + "\n"
 
 
