@@ -59,8 +59,7 @@ def crates():
     lines = [
         "# Crates",
         "",
-        "`docs/lists.py` writes this page from `crates.txt` and from the heads of crates: change those. The section is the first word of a name. If a crate has",
-        "several layers, its head lists its modules.",
+        "`docs/lists.py` writes this page from `crates.txt` and from the heads of crates: change those. The section is the first word of a name.",
     ]
     for section, what, names in found:
         lines += ["", f"## {section}: {what}", ""]
