@@ -6,6 +6,7 @@ pub mod ScriptLineAndFirstFaultLaws
 pub mod ScriptReadBackLaws
 pub mod ScriptTextGrowthLaws
 pub mod StatementAndWordFaultLaws
+pub mod StreamFormLaws
 pub mod StreamItemLaws
 pub mod StreamWordLaws
 pub mod TextLineReadLaws

@@ -157,7 +157,7 @@ within_six : (next at : ℕ) → (next ≡ at) ⊎ ((next ≡ 0) × (at ≡ 1)) 
 within_six next at (inl same) low = omega (arith, same, low)
 within_six next at (inr passed) low = omega (arith, passed.1)
 
-placed : (d : Draft) (k : Keyword) → place_fault d k ≡ None → IsPlaced d.next (place k)
+pub placed : (d : Draft) (k : Keyword) → place_fault d k ≡ None → IsPlaced d.next (place k)
 placed d k none =
     let next = d.next in
     let at = place k in
@@ -199,13 +199,13 @@ at_options next is = let late = is.1 (omega arith) in omega (arith, late.0, late
 not_yet : (n : ℕ) → nat_lt 0 n ≡ false → n ≡ 0
 not_yet n none = let least = ltb-false 0 n none in omega (arith, least)
 
-record HasNoFault (d : Draft) (k : Keyword) (ws : List (List ℕ)) : Type 0 where
+pub record HasNoFault (d : Draft) (k : Keyword) (ws : List (List ℕ)) : Type 0 where
   pub count : length ws ≡ takes d k
   pub each : each_fault d k ws ≡ None
   pub room : is_full d k ws ≡ false
   pub order : is_early d k ws ≡ false
 
-no_fault : (d : Draft) (k : Keyword) (ws : List (List ℕ)) → rest_fault d k ws ≡ None → HasNoFault d k ws
+pub no_fault : (d : Draft) (k : Keyword) (ws : List (List ℕ)) → rest_fault d k ws ≡ None → HasNoFault d k ws
 no_fault d k ws none =
     let count = wrong.Count k (takes d k) (length ws) in
     let each = each_fault d k ws in
@@ -366,7 +366,7 @@ fits_said d word.Stream ws is at fine =
       late.0,
       late.1,
       record {
-        sound = says.sound;
+        sound = says.rate;
         ends = says.ends;
         order = ltb-false (number_at 2 ws) d.frame_due fine.order;
         room = ltb-false most_items (length d.items + count_of (rate_in ws)) fine.room;

@@ -1,5 +1,5 @@
 -- The words of a stream: the parts of a word between commas, and that words without a fault say a rate.
-use Rattle.std.proofs.Common.{◌≡◌, ◌≢◌, ℕ, ◌+◌, ◌-◌, ◌≤◌, ◌==◌, nat_le, nat_lt, not, true, false, List, [], ◌∷◌}
+use Rattle.std.proofs.Common.{◌≡◌, ◌≢◌, ℕ, ◌+◌, ◌-◌, ◌<◌, ◌≤◌, ◌==◌, ◌&&◌, nat_le, nat_lt, not, true, false, List, [], ◌∷◌}
 use Rattle.std.proofs.Common.{◌++◌, length, All, refl, subst, ap, sym, ◌∙◌, arith, None, option_map}
 use Rattle.std.specs.List.{list_all}
 use Rattle.std.specs.Option.{option_or}
@@ -13,14 +13,17 @@ use Rattle.law_rates.specs.declared.rate_frames.Rate.{Rate}
 use Rattle.law_rates.proofs.RateFrameLaws.{AreSizes}
 use Rattle.law_model.specs.Common.{shortest_frame, longest_frame}
 use Rattle.text_lines.specs.Cut.{Lacks}
-use Rattle.text_lines.specs.Fields.{fields_fault, field_fault, within, any, above, where_true}
+use Rattle.text_lines.specs.declared.text_faults.FieldFault.TheVariants as field
+use Rattle.text_lines.specs.Fields.{fields_fault, field_fault, number_fault, within, any, above, where_true}
 use Rattle.text_lines.specs.WordsOfLine.{number_of, is_number}
 use Rattle.text_lines.proofs.TextLineAndWordLaws.{or_none, where_none, map_none, number_ok}
 use Rattle.text_scripts.specs.declared.script_read.script_fault.SizesFault.TheVariants as sizes
 use Rattle.text_scripts.specs.declared.script_read.script_fault.LineFault.TheVariants as wrong
 use Rattle.text_scripts.specs.declared.script_read.script_keyword.Keyword.TheVariants as word
 use Rattle.text_scripts.specs.declared.script_read.script_draft.Draft.{Draft}
-use Rattle.text_scripts.specs.script_read.Statements.{parts_of, sizes_of, is_size, sizes_fault, long_fault, each_fault, rate_in}
+use Rattle.text_scripts.specs.script_read.Statements.{parts_of, sizes_of, is_size, sizes_fault, are_digits, long_fault}
+use Rattle.text_scripts.specs.script_read.Statements.{each_fault, rate_in}
+use Rattle.text_scripts.specs.script_read.Written.{IsStream}
 use Rattle.text_scripts.specs.script_read.Drafts.{IsDraft, rate_fault}
 
 -- ---- parts
@@ -44,31 +47,58 @@ are_sizes (n ∷ ns) all =
     All-cons (λ size. (shortest_frame ≤ size) × (size ≤ longest_frame)) n ns
     (leb-true shortest_frame n bounds.0, leb-true n longest_frame bounds.1) (are_sizes ns parts.1)
 
-record FitRate (ns : List ℕ) : Type 0 where
-  some : 1 ≤ length ns
-  few : length ns ≤ most_sizes
-  each : AreSizes ns
+record FitRate (word : List ℕ) : Type 0 where
+  numbers : list_all is_number (parts_of word) ≡ true
+  some : 1 ≤ length (sizes_of word)
+  few : length (sizes_of word) ≤ most_sizes
+  each : AreSizes (sizes_of word)
 
-sizes_fit : (word : List ℕ) → sizes_fault word ≡ None → FitRate (sizes_of word)
+sizes_fit : (word : List ℕ) → sizes_fault word ≡ None → FitRate word
 sizes_fit word none =
+    let form = not (list_all is_number (parts_of word)) in
     let many = nat_lt most_sizes (length (parts_of word)) in
     let range = not (list_all is_size (sizes_of word)) in
-    let one = or_none (where_true (not (list_all is_number (parts_of word))) sizes.Digits)
+    let one = or_none (where_true form sizes.Digits)
     (option_or (where_true many sizes.Count) (where_true range sizes.Range)) none in
     let two = or_none (where_true many sizes.Count) (where_true range sizes.Range) one.1 in
     let few = ltb-false most_sizes (length (parts_of word)) (where_none many sizes.Count two.0) in
     let all = not-false (list_all is_size (sizes_of word)) (where_none range sizes.Range two.1) in
     let size = length-map (parts_of word) number_of in
     let some = length-slice_split (λ c. c == 44) word in
-    record { some = omega (arith, size, some); few = omega (arith, size, few); each = are_sizes (sizes_of word) all }
+    record {
+      numbers = not-false (list_all is_number (parts_of word)) (where_none form sizes.Digits one.0);
+      some = omega (arith, size, some);
+      few = omega (arith, size, few);
+      each = are_sizes (sizes_of word) all;
+    }
+
+-- ---- the numbers
+is_numeral : (at least most : ℕ) (w : List ℕ) → number_fault at least most w ≡ None → is_number w ≡ true
+is_numeral at least most w none =
+    let form = not (is_number w) in
+    let range = not (nat_le least (number_of w) && nat_le (number_of w) most) in
+    not-false (is_number w) (where_none form (field.Number at)
+    (or_none (where_true form (field.Number at)) (where_true range (field.Range at least most)) none).0)
+
+record FitLong (word : List ℕ) : Type 0 where
+  form : are_digits 20 word ≡ true
+  below : number_of word < 18446744073709551616
+
+long_fits : (word : List ℕ) → long_fault word ≡ None → FitLong word
+long_fits word none =
+    let form = not (are_digits 20 word) in
+    let range = nat_lt 18446744073709551615 (number_of word) in
+    let most = wrong.Field (field.Range 6 0 18446744073709551615) in
+    let is = or_none (where_true form wrong.LongNumber) (where_true range most) none in
+    let below = ltb-false 18446744073709551615 (number_of word) (where_none range most is.1) in
+    record {
+      form = not-false (are_digits 20 word) (where_none form wrong.LongNumber is.0);
+      below = omega (arith, below);
+    }
 
 -- ---- the rate
-pub record SaysRate (d : Draft) (ws : List (List ℕ)) : Type 0 where
-  pub sound : IsRate (rate_in ws)
-  pub ends : (rate_in ws).end ≤ d.config.ticks
-
 pub says_rate : (d : Draft) (ws : List (List ℕ)) → IsDraft d → 6 ≤ d.next → length ws ≡ 5 →
-    each_fault d word.Stream ws ≡ None → SaysRate d ws
+    each_fault d word.Stream ws ≡ None → IsStream d.config.ticks ws
 says_rate d (w ∷ m ∷ f ∷ e ∷ n ∷ []) is late size none =
     let ticks = d.config.ticks in
     let all = within 1 most_mbits ∷ any ∷ above ticks ∷ [] in
@@ -85,9 +115,16 @@ says_rate d (w ∷ m ∷ f ∷ e ∷ n ∷ []) is late size none =
     let mbits = number_ok 3 1 most_mbits m first.0 in
     let end = number_ok 5 (number_of f + 1) ticks e third.0 in
     let fit = sizes_fit w (map_none wrong.Sizes (sizes_fault w) one.0) in
+    let long = long_fits n two.1 in
     let most = is.config.ticks late in
     record {
-      sound = record {
+      five = size;
+      sizes = fit.numbers;
+      mbits = is_numeral 3 1 most_mbits m first.0;
+      first = is_numeral 4 0 9999999999 f second.0;
+      end = is_numeral 5 (number_of f + 1) ticks e third.0;
+      number = long.form;
+      rate = record {
         some = fit.some;
         few = fit.few;
         sizes = fit.each;
@@ -97,6 +134,7 @@ says_rate d (w ∷ m ∷ f ∷ e ∷ n ∷ []) is late size none =
         end = omega (arith, end.1, most.1);
       };
       ends = end.1;
+      below = long.below;
     }
 says_rate d ws is late size none = absurd (omega (arith, size))
 
@@ -107,4 +145,4 @@ rate_sound d ws rate is late none same =
     let count = wrong.Count word.Stream 5 (length ws) in
     let parts = or_none (where_true (not (length ws == 5)) count) (each_fault d word.Stream ws) none in
     let five = eqb-true (length ws) 5 (not-false (length ws == 5) (where_none (not (length ws == 5)) count parts.0)) in
-    subst IsRate (sym same) (says_rate d ws is late five parts.1).sound
+    subst IsRate (sym same) (says_rate d ws is late five parts.1).rate

@@ -149,7 +149,7 @@ module _ (octets : List ℕ) (bytes : All (λ o. o < 256) octets) where
         (append_assoc frame_line (codes "\n") more)
         whole_line
 
-    line_words : words frame_line ≡ codes "frame" ∷ decimal due ∷ encode_lower octets ∷ []
+    pub line_words : words frame_line ≡ codes "frame" ∷ decimal due ∷ encode_lower octets ∷ []
     line_words =
         let hex = encode_lower octets in
         ap (λ (l : List ℕ). words (codes "frame " ++ l)) (append_assoc (decimal due) (codes " ") hex)
@@ -232,7 +232,7 @@ frame_sound d due octets takes =
     or_fine (place_fault d word.Frame) (rest_fault d word.Frame (decimal due ∷ encode_lower octets ∷ []))
     (place_fine d takes.low takes.high) (frame_rest d due octets takes)
 
-abbrev with_frames : Draft → List Item → ℕ → Draft
+abbrev pub with_frames : Draft → List Item → ℕ → Draft
 with_frames d items due = record d { next = 8; items = d.items ++ items; frame_due = due }
 
 frame_after : (m : ℕ) (d : Draft) (due : ℕ) (octets : List ℕ) → due < 10000000000 → All (λ o. o < 256) octets →
@@ -283,10 +283,10 @@ takes_frame d rate k inside takes =
       order = takes.order;
     }
 
-from_here : (rate : Rate) (k : ℕ) → k < count_of rate → frames_from rate k ≡ frame_at rate k ∷ frames_from rate (suc k)
+pub from_here : (rate : Rate) (k : ℕ) → k < count_of rate → frames_from rate k ≡ frame_at rate k ∷ frames_from rate (suc k)
 from_here rate k inside = from_next rate k (suc k) (due_of rate k) (frame_at rate k).octets inside refl refl refl
 
-lines_here : (rate : Rate) (k : ℕ) → k < count_of rate → IsItem most_ticks (stream_item (frame_at rate k)) →
+pub lines_here : (rate : Rate) (k : ℕ) → k < count_of rate → IsItem most_ticks (stream_item (frame_at rate k)) →
     lines (lines_of (frames_from rate k))
     ≡ (start_of (due_of rate k) ++ encode_lower (frame_at rate k).octets) ∷ lines (lines_of (frames_from rate (suc k)))
 lines_here rate k inside fits =
@@ -387,7 +387,7 @@ adds_alike n m d (says.Event e) late fits = record { same = refl; late = omega a
 adds_alike n m d said late fits = absurd (let at = fits.0 in omega (arith, late, at))
 
 -- lines that are numbered anew say the same where their numbers are the same, or behind the first item
-abbrev MayMove : ℕ → ℕ → Draft → Type 0
+abbrev pub MayMove : ℕ → ℕ → Draft → Type 0
 MayMove n m d = (m ≡ n) ⊎ (8 ≤ d.next)
 
 -- a line that stays
@@ -416,7 +416,7 @@ module _ (m : ℕ) (d now : Draft) (l : List ℕ) (rest : List (List ℕ)) (none
       rw says (by_keyword (drop 1 (words l)) (keyword_of (word_at 0 (words l))) is said fits)
 
 -- the lines behind one may move on where it may
-moves_on : (n m j : ℕ) (d : Draft) (said : Statement) → MayMove n m d → Fits d said →
+pub moves_on : (n m j : ℕ) (d : Draft) (said : Statement) → MayMove n m d → Fits d said →
     MayMove (m + 1) j (after m d said) → (after m d said ≡ after n d said) × MayMove (n + 1) j (after n d said)
 moves_on n m j d said (inl same) fits near =
     let e : after m d said ≡ after n d said = ap (λ (k : ℕ). after k d said) same in (

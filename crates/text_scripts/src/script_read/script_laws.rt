@@ -8,7 +8,7 @@ ghost use Rattle.text_scripts.specs.declared.script_read.script_fault.LineFault.
 ghost use Rattle.text_scripts.specs.declared.script_read.script_fault.ScriptFault.TheVariants.{Line};
 ghost use Rattle.text_scripts.specs.script_read.Statements.{at_first};
 ghost use Rattle.text_scripts.specs.script_read.Script.{script_of, script_lines, IsScriptOf};
-ghost use Rattle.text_scripts.specs.script_read.Written.{all_written};
+ghost use Rattle.text_scripts.specs.script_read.Written.{AreFormed, all_written};
 
 /// A text has the fault of a line exactly where that line is faulty after lines none of which is, or where no
 /// line is faulty and the configuration isn't whole at the end. It is a script exactly where no line is
@@ -21,12 +21,14 @@ pub fn fault_law()
         (script_of text ≡ Ok script) ↔ IsScriptOf (lines text) script }
 {}
 
-/// A text whose lines are those of a script with each stream written out, as the lines that the command `stream` of its
-/// words writes, is the same script, however long the texts are.
+/// A text is a script exactly where each of its lines `stream` has its form and ranges, with END at most the script's
+/// ticks, and a text of the same lines with each stream written out, as the lines that the command `stream` of its words
+/// writes, is that script, however long both are. Each has at most 268,435,456 items, as `valid_law` has it.
 pub fn stream_law()
     ensures same { (text other : List ℕ) (script : Script) →
         lines other ≡ all_written (lines text) →
-        script_of text ≡ Ok script → script_of other ≡ Ok script }
+        (script_of text ≡ Ok script)
+        ↔ (AreFormed script.config.ticks (lines text) × (script_of other ≡ Ok script)) }
 {}
 
 /// A text that is a script, however long, says one that can be walked: its numbers are in their ranges, its windows
