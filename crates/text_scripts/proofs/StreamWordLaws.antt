@@ -1,5 +1,5 @@
 -- The words of a stream: the parts of a word between commas, and that words without a fault say a rate.
-use Rattle.std.proofs.Common.{◌≡◌, ◌≢◌, ℕ, ◌+◌, ◌-◌, ◌<◌, ◌≤◌, ◌==◌, ◌&&◌, nat_le, nat_lt, not, true, false, List, [], ◌∷◌}
+use Rattle.std.proofs.Common.{◌≡◌, ◌≢◌, ℕ, ◌+◌, ◌<◌, ◌≤◌, ◌==◌, ◌&&◌, nat_le, nat_lt, not, true, false, List, [], ◌∷◌}
 use Rattle.std.proofs.Common.{◌++◌, length, All, refl, subst, ap, sym, ◌∙◌, arith, None, option_map}
 use Rattle.std.specs.List.{list_all}
 use Rattle.std.specs.Option.{option_or}
@@ -133,7 +133,7 @@ says_rate d (w ∷ m ∷ f ∷ e ∷ n ∷ []) is late size none =
         before = omega (arith, end.0);
         end = omega (arith, end.1, most.1);
       };
-      ends = end.1;
+      ends = omega (arith, end.1);
       below = long.below;
     }
 says_rate d ws is late size none = absurd (omega (arith, size))

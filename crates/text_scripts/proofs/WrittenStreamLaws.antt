@@ -26,7 +26,7 @@ use Rattle.law_model.specs.declared.script_types.ItemKind.{ItemKind}
 use Rattle.law_model.specs.declared.script_types.ItemKind.TheVariants as item
 use Rattle.law_model.specs.session.Items.{stream_item, stream_items}
 use Rattle.text_lines.specs.Cut.{Lacks}
-use Rattle.text_lines.specs.Fields.{Field, within, digits, where_true, number_fault, octets_fault, fields_fault}
+use Rattle.text_lines.specs.Fields.{within, digits, where_true, number_fault, octets_fault, fields_fault}
 use Rattle.text_lines.specs.FirstFault.{AreSound}
 use Rattle.text_lines.specs.WordsOfLine.{words, word_at, is_skipped, is_digit, is_number, number_of, number_after, octets_of}
 use Rattle.text_lines.specs.declared.text_faults.FieldFault.TheVariants as field

@@ -1,6 +1,6 @@
 -- A line more; and a first part that is too long.
-use Rattle.std.proofs.Common.{◌≡◌, ◌≤◌, ◌<◌, ◌+◌, ◌*◌, suc, length, ap, sym, ◌∙◌, arith, refl}
-use Rattle.law_rates.specs.Rates.{count_of, first_frames, due_of}
+use Rattle.std.proofs.Common.{◌≡◌, ◌≤◌, ◌+◌, ◌*◌, suc, length, ap, sym, ◌∙◌, arith, refl}
+use Rattle.law_rates.specs.Rates.{count_of, first_frames}
 use Rattle.text_scripts.specs.rate_load.RateTexts.{lines_of, start_of}
 use Rattle.text_scripts.proofs.RateTextLaws.{no_length, length_more, length_within, length_all}
 use Rattle.text_scripts.proofs.rate_load.write_rate_text.is_too_long.Goals as goal

@@ -1,5 +1,5 @@
 -- A line more is written; or a part of it, which is a part of the whole.
-use Rattle.std.proofs.Common.{◌≡◌, List, ◌∷◌, ◌++◌, take, ap, sym, ◌∙◌, subst}
+use Rattle.std.proofs.Common.{◌++◌, take, sym, subst}
 use Rattle.law_model.specs.Common.{Appends, AppendsPart}
 use Rattle.octet_io.proofs.AppendedTextAndPrefixLaws.{Appends-then, AppendsPart-then, AppendsPart-longer}
 use Rattle.law_rates.specs.Rates.{RateFrame}
