@@ -47,7 +47,7 @@ def main():
     commands = [(crate, form.removesuffix(" FILE")) for crate, form, _ in rows("commands")]
     numbers = {name for name, _, _ in rows("ranges")}
     for program, place in USAGES.items():
-        usage = re.search(rf'"usage: {program} (.*?)\\n"', text(f"crates/{place}"))[1]
+        usage = re.search(rf'"usage: {program} (.*?)\\n"', re.sub(r"\\\n\s*", "", text(f"crates/{place}")))[1]
         mine = set()
         for crate, form in commands:
             if crate == program and form.split()[0] not in ("view", "report", "phases"):

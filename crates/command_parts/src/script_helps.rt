@@ -11,11 +11,13 @@ use text_scripts::script_read::{Keyword, LineFault, Part, SizesFault};
 
 /// The words that a line may begin with.
 const FIRST_WORDS: &[u8] =
-    b"a line begins with one of container, lines, delays, ring, lag, ticks, sink, holdoff, restore, statuses, fail, lost, frame, stream, add, remove, client, operator, tick, carry, back, take, round, drain";
+    b"a line begins with one of container, lines, delays, ring, lag, ticks, sink, holdoff, restore, statuses, \
+    fail, lost, frame, stream, add, remove, client, operator, tick, carry, back, take, round, drain";
 
 /// How the slip of a failure has to be, where it says how much longer a path gets.
 const LONGER_PATH: &[u8] =
-    b"word 5 is a number of one to ten digits; a path that gets longer is no slip: SLIP is 0, and delays has the longer delay";
+    b"word 5 is a number of one to ten digits; a path that gets longer is no slip: SLIP is 0, \
+    and delays has the longer delay";
 
 /// A keyword as scripts have it.
 fn keyword_word(keyword: Keyword) -> &'static [u8]

@@ -9,9 +9,10 @@ use Rattle.command_words.specs.CommandLineWords.{taken_as}
 use Rattle.command_parts.specs.Common.{Task, none, reads, makes, talks, Lent}
 use Rattle.walk_engine.specs.Common.{Walked}
 use Rattle.command_walk.specs.declared.command_of_words.WalkCommand.{WalkCommand}
-use Rattle.command_walk.specs.declared.command_of_words.WalkCommand.TheVariants.{Walk, Trace, Fates, Capture, Gfp, Frames}
-use Rattle.command_walk.specs.declared.command_of_words.WalkCommand.TheVariants.{Decode, Noise, Au4, Channels, Pair, Make}
-use Rattle.command_walk.specs.declared.command_of_words.WalkCommand.TheVariants.{Check, H4, Service, Live, OneWay, Stream}
+use Rattle.command_walk.specs.declared.command_of_words.WalkCommand.TheVariants.{Walk, Trace, Fates, Capture, Gfp}
+use Rattle.command_walk.specs.declared.command_of_words.WalkCommand.TheVariants.{Frames, Decode, Noise, Au4, Channels}
+use Rattle.command_walk.specs.declared.command_of_words.WalkCommand.TheVariants.{Pair, Make, Check, H4, Service}
+use Rattle.command_walk.specs.declared.command_of_words.WalkCommand.TheVariants.{Live, OneWay, Stream}
 use Rattle.command_walk.specs.commands.Walk.{walk_words, walk_answer}
 use Rattle.command_walk.specs.commands.Trace.{trace_words, trace_answer}
 use Rattle.command_walk.specs.commands.Capture.{capture_words, capture_answer}
@@ -41,8 +42,8 @@ usage = codes "usage: vcat_walk walk, trace, fates, check, h4 LINE, service INTE
 abbrev pub command_of : List (List ℕ) → Option WalkCommand
 command_of words =
     option_or (option_or (option_or (option_or (option_or (option_or (option_or (option_or
-    (option_or (option_or (option_or (option_or (option_or (option_or (option_or (option_or (option_or (walk_words words)
-    (trace_words words))
+    (option_or (option_or (option_or (option_or (option_or (option_or (option_or (option_or
+    (option_or (walk_words words) (trace_words words))
     (fates_words words))
     (check_words words))
     (h4_words words))

@@ -137,7 +137,9 @@ pub(crate) fn no_command<E: ByteSink>(notes: &mut E) -> WalkEnd
     ensures told { Tells E.written E.faults notes.old notes.new usage }
 {
     let text =
-        b"usage: vcat_walk walk, trace, fates, check, h4 LINE, service INTERVAL, capture, gfp, frames, decode, noise, au4, channels, pair, pair there, pair back, live, live trace, live told, make NUMBER LINES TICKS, or stream OCTETS MBITS FIRST END NUMBER\n";
+        b"usage: vcat_walk walk, trace, fates, check, h4 LINE, service INTERVAL, capture, gfp, frames, decode, noise, \
+        au4, channels, pair, pair there, pair back, live, live trace, live told, make NUMBER LINES TICKS, \
+        or stream OCTETS MBITS FIRST END NUMBER\n";
     let status = tell_usage(text, notes);
     WalkEnd { status, walk: None }
 }

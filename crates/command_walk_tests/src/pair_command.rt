@@ -1,5 +1,5 @@
-//! Pairs: two scripts there and back, one way of them, what is wrong with a text, and inputs and outputs that fail. What
-//! is expected comes of a model of the definitions. Rows stand behind functions, so that no proof sees them.
+//! Pairs: two scripts there and back, one way of them, what is wrong with a text, and inputs and outputs that fail.
+//! What is expected comes of a model of the definitions. Rows stand behind functions, so that no proof sees them.
 
 use crate::walk_program::wrong_walk_of;
 use command_rows::Turns;

@@ -1,5 +1,6 @@
 //! The script of one way of a pair: what the other way loses of its return packets stands in it as lost lines.
-ghost use Rattle.std.specs.Prelude.{◌≡◌, ◌⊎◌, ℕ, ◌<◌, ◌≤◌, true, false, length, [], ◌∷◌, IfNone, IfSome, IfOk, IfErr, Ok, Err};
+ghost use Rattle.std.specs.Prelude.{◌≡◌, ◌⊎◌, ℕ, ◌<◌, ◌≤◌, true, false, length, [], ◌∷◌};
+ghost use Rattle.std.specs.Prelude.{IfNone, IfSome, IfOk, IfErr, Ok, Err};
 ghost use Rattle.law_model.specs.Common.{most_packets, most_windows};
 ghost use Rattle.law_pair.specs.Common.{IsPair, IsWay, is_unheard, unheard, way_config};
 ghost use Rattle.pair_walk.specs.pair_script.Pieces.{no_memory};

@@ -3,8 +3,10 @@
 ghost use Rattle.std.specs.Prelude.{◌≡◌, ◌≢◌, ℕ, suc, ◌+◌, ◌-◌, ◌*◌, ◌/◌, ◌≤◌, ◌<◌, [], ◌∷◌, ◌++◌, length, List, OnOk};
 ghost use Rattle.std.specs.Prelude.{OnErr, IfSome, IfNone, IsTrue, false, Option, Some, slice_get};
 ghost use Rattle.fate_engine.specs.declared.fate_core.packet_rows.Run.{Run as RunData};
-ghost use Rattle.law_model.specs.Common.{Scenario, Told, active, is_known, table_of, place_of, width, most_lines, most_packets};
-ghost use Rattle.fate_engine.specs.fate_core.Packets.{ArePackets, AreApart, ArePacketRuns, IsRun, active_in, octets_of, start_by};
+ghost use Rattle.law_model.specs.Common.{Scenario, Told, active, is_known, table_of, place_of, width};
+ghost use Rattle.law_model.specs.Common.{most_lines, most_packets};
+ghost use Rattle.fate_engine.specs.fate_core.Packets.{ArePackets, AreApart, ArePacketRuns, IsRun, active_in};
+ghost use Rattle.fate_engine.specs.fate_core.Packets.{octets_of, start_by};
 
 use arrayvec::ArrayVec;
 use law_model::{MOST_LINES, MOST_PACKETS};

@@ -42,7 +42,8 @@ pub(super) fn begin_all(
 /// Which lines carry payload.
 fn carriers(active: &[u8]) -> [bool; MOST_LINES]
     requires lines { AreLines most_lines active.now }
-    ensures { (line : ℕ) → line < most_lines → slice_index_or result line false ≡ carries active.now line }
+    ensures { (line : ℕ) → line < most_lines →
+        slice_index_or result line false ≡ carries active.now line }
 {
     let mut carry = [false; MOST_LINES];
     for rank in 0..active.len() {

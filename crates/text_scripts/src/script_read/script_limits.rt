@@ -1,6 +1,7 @@
 //! The tests of a script all of whose lines are right: slips, the spread of the lines, and the lag.
 ghost use Rattle.std.specs.Prelude.{◌≡◌, ◌+◌, ◌/◌, ◌≤◌, length, All, max, None, Some};
-ghost use Rattle.law_model.specs.Common.{AreWindows, greatest, least, greatest_slip as greatest_slip_of, most_lines, IsValid};
+ghost use Rattle.law_model.specs.Common.{AreWindows, greatest, least, greatest_slip as greatest_slip_of};
+ghost use Rattle.law_model.specs.Common.{most_lines, IsValid};
 ghost use Rattle.text_scripts.specs.script_read.Script.{windows_fault, slip_fault, least_lag, config_fault};
 ghost use Rattle.text_scripts.specs.script_read.Drafts.{AreFailures};
 ghost use Rattle.text_scripts.specs.script_read.ScriptInPieces.{IsUntested};

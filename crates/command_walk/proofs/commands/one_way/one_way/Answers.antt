@@ -1,5 +1,6 @@
 -- The input is read, and says two scripts of which one way is a script or isn't.
-use Rattle.std.proofs.Common.{◌≡◌, ◌↔◌, ◌<◌, ◌≤◌, nat_lt, Bool, true, false, if◌then◌else◌, length, Ok, Err, Result, refl, sym, ap, ◌∙◌, inl, inr, subst, List, ℕ}
+use Rattle.std.proofs.Common.{◌≡◌, ◌↔◌, ◌<◌, ◌≤◌, nat_lt, Bool, true, false, if◌then◌else◌, length, Ok, Err, Result}
+use Rattle.std.proofs.Common.{refl, sym, ap, ◌∙◌, inl, inr, subst, List, ℕ}
 use Rattle.std.proofs.lemmas.Bool.{both_ways, cases_lt, le-ltb, lt-ltb}
 use Rattle.law_model.specs.Common.{longest_input}
 use Rattle.law_model.specs.declared.script_types.Script.{Script}
@@ -86,7 +87,8 @@ pub returns : goal.returns
 returns g c =
     let has = c.in-Ok.ensures.pair in
     let script = c.in-Ok-way_script.script in
-    let few : length (script_text script) ≤ longest_input = few-octets script c.is_too_long.result c.is_too_long.ensures c.if-is_too_long.false in
+    let few : length (script_text script) ≤ longest_input =
+    few-octets script c.is_too_long.result c.is_too_long.ensures c.if-is_too_long.false in
     text-written _ _ _ _ (one_way_answer c.args.way) has.text (script_text script) has.read
     (answers _ c.args.way c.in-Ok.pair has
     ∙ reply c.args.way c.in-Ok.pair script c.in-Ok-way_script.ensures.script
