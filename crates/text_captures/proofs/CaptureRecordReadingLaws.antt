@@ -327,27 +327,6 @@ pub due-is : (form : Form) (body rest : List ℕ) (clock : Clock) (before : List
 due-is form body rest clock before read = read.stands.due ∙ ap (λ unit. due_of unit before) read.unit
 
 -- ---- How lines and their digits are put together.
--- two texts, one behind the other
-encode-append : (digits xs ys : List ℕ) → encode_with digits (xs ++ ys) ≡ encode_with digits xs ++ encode_with digits ys
-unfolding encode_with
-encode-append digits [] ys = refl
-encode-append digits (x ∷ xs) ys =
-    ap (λ l. slice_index digits (x / 16) ∷ slice_index digits (x % 16) ∷ l) (encode-append digits xs ys)
-
-pub digits-none : (before : List ℕ) → before ≡ before ++ encode_lower []
-unfolding encode_with
-digits-none before = sym (append-nil before)
-
-pub digits-then : (octets : List ℕ) (at end : ℕ) → at ≤ end
-    → encode_lower (take end octets) ≡ encode_lower (take at octets) ++ encode_lower (take (end - at) (drop at octets))
-digits-then octets at end low =
-    ap (λ n. encode_lower (take n octets)) (let e : end ≡ at + (end - at) = omega (arith, low) in e)
-    ∙ ap encode_lower (take-add at (end - at) octets)
-    ∙ encode-append lower_digits (take at octets) (take (end - at) (drop at octets))
-
-pub digits-append : (xs ys : List ℕ) → encode_lower (xs ++ ys) ≡ encode_lower xs ++ encode_lower ys
-digits-append xs ys = encode-append lower_digits xs ys
-
 pub texts-none : (form : Form) → frame_texts (frames_behind form [] []) ≡ []
 unfolding frames_behind
 texts-none form = refl

@@ -1,5 +1,7 @@
 -- What is told of a text, as it grows.
-use Rattle.std.proofs.Common.{◌≡◌, ℕ, Bool, true, false, List, [], ◌∷◌, ◌++◌, Option, sym, ◌∙◌, ap, append-nil}
+use Rattle.std.proofs.Common.{◌≡◌, ℕ, ◌+◌, ◌-◌, ◌≤◌, ◌/◌, ◌%◌, Bool, true, false, List, [], ◌∷◌, ◌++◌, Option, refl, sym}
+use Rattle.std.proofs.Common.{◌∙◌, ap, append-nil, take, drop, take-add, arith, slice_index}
+use Rattle.hex.specs.Hex.{encode_lower, encode_with, lower_digits}
 use Rattle.std.proofs.lemmas.Grind.{flat_map-append}
 use Rattle.octet_io.proofs.AppendedTextAndPrefixLaws.{AppendsPart-longer}
 use Rattle.text_report.specs.ReportLines.{got_text, got_texts}
@@ -35,3 +37,24 @@ told-more written faults false first old new waiting after text next is more tol
           more.all;
     })
 told-more written faults true first old new waiting after text next is more told = absurd cc
+
+-- ---- digits
+encode-append : (digits xs ys : List ℕ) → encode_with digits (xs ++ ys) ≡ encode_with digits xs ++ encode_with digits ys
+unfolding encode_with
+encode-append digits [] ys = refl
+encode-append digits (x ∷ xs) ys =
+    ap (λ l. slice_index digits (x / 16) ∷ slice_index digits (x % 16) ∷ l) (encode-append digits xs ys)
+
+pub digits-append : (xs ys : List ℕ) → encode_lower (xs ++ ys) ≡ encode_lower xs ++ encode_lower ys
+digits-append xs ys = encode-append lower_digits xs ys
+
+pub digits-none : (before : List ℕ) → before ≡ before ++ encode_lower []
+unfolding encode_with
+digits-none before = sym (append-nil before)
+
+pub digits-then : (octets : List ℕ) (at end : ℕ) → at ≤ end
+    → encode_lower (take end octets) ≡ encode_lower (take at octets) ++ encode_lower (take (end - at) (drop at octets))
+digits-then octets at end low =
+    ap (λ n. encode_lower (take n octets)) (let e : end ≡ at + (end - at) = omega (arith, low) in e)
+    ∙ ap encode_lower (take-add at (end - at) octets)
+    ∙ digits-append (take at octets) (take (end - at) (drop at octets))

@@ -1,10 +1,11 @@
 //! Frames are written as lines of text.
 ghost use Rattle.std.specs.Prelude.{◌≡◌, ◌≤◌, ℕ, Bool, List, [], ◌++◌, length, false, OnOk, OnErr};
-ghost use Rattle.law_model.specs.Common.{Appends, AppendsPart, Start, longest_got_line};
+ghost use Rattle.hex.specs.Hex.{encode_lower};
+ghost use Rattle.law_model.specs.Common.{Appends, AppendsPart, Start, longest_frame, longest_got_line};
 ghost use Rattle.text_got.specs.TextSoFar.{HasText, GivesUp, name_of, has_failed, start_at};
 
 use crate::text_block::TextBlock;
-use law_model::FrameOut;
+use law_model::{FrameOut, LONGEST_FRAME};
 use octet_io::{ByteSink, Failed};
 
 /// Frames go out on something that may fail.
@@ -51,6 +52,36 @@ impl<'a, K: ByteSink> GotLines<'a, K> {
         match self.block.add(text, self.out) {
             Ok(()) => {}
             Err(Failed) => self.failed = true,
+        }
+    }
+
+    /// Writes the digits of at most 9,600 octets.
+    fn digits(&mut self, octets: &[u8])
+        requires { length octets.now ≤ longest_frame }
+        ensures { (start : Start) (before : List ℕ) →
+            HasText K.written K.faults self.old start before →
+            HasText K.written K.faults self.new start (before ++ encode_lower octets.now) }
+    {
+        if self.failed {
+            return;
+        }
+        match self.block.add_hex(octets, self.out) {
+            Ok(()) => {}
+            Err(Failed) => self.failed = true,
+        }
+    }
+
+    /// Writes octets in hexadecimal digits, two lower-case digits each.
+    pub fn hex(&mut self, octets: &[u8])
+        ensures { (start : Start) (before : List ℕ) →
+            HasText K.written K.faults self.old start before →
+            HasText K.written K.faults self.new start (before ++ encode_lower octets.now) }
+    {
+        let mut at = 0;
+        while at < octets.len() {
+            let end = octets.len().min(at + LONGEST_FRAME);
+            self.digits(&octets[at..end]);
+            at = end;
         }
     }
 

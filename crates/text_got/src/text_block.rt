@@ -1,11 +1,13 @@
 //! Lines of text that wait in a block, so that many of them go out in one call.
 ghost use Rattle.std.specs.Prelude.{◌≡◌, ◌≤◌, [], ◌++◌, length, OnOk, OnErr};
+ghost use Rattle.hex.specs.Hex.{encode_lower};
 ghost use Rattle.law_model.specs.Common.{Appends, AppendsPart, longest_frame, longest_got_line};
 ghost use Rattle.text_report.specs.ReportLines.{got_text};
 ghost use Rattle.text_got.specs.TextSoFar.{Holds};
 
 use octet_io::{ByteSink, Failed, put_all};
 use std::marker::Model;
+use text_hex::encode;
 use text_report::{GOT_ROOM, got_line};
 
 /// How many octets wait at least when a block goes out.
@@ -75,6 +77,24 @@ impl TextBlock {
     {
         let end = self.len + line.len();
         self.octets[self.len..end].copy_from_slice(line);
+        if end < MUCH {
+            self.len = end;
+            return Ok(());
+        }
+        self.len = 0;
+        put_all(out, &self.octets[..end])
+    }
+
+    /// Adds the digits of octets, and puts what waits where it is much.
+    pub(crate) fn add_hex<K: ByteSink>(&mut self, octets: &[u8], out: &mut K) -> Result<(), Failed>
+        requires { length octets.now ≤ longest_frame }
+        ensures ok { let text = self.old ++ encode_lower octets.now in
+            OnOk result (Holds K.written K.faults out.old out.new self.new text) }
+        ensures err { let text = self.old ++ encode_lower octets.now in
+            OnErr result (AppendsPart K.written K.faults out.old out.new text) }
+    {
+        let end = self.len + 2 * octets.len();
+        encode(octets, &mut self.octets[self.len..end]);
         if end < MUCH {
             self.len = end;
             return Ok(());

@@ -27,24 +27,6 @@ use Rattle.text_scripts.specs.script_text.ScriptText.{spaced, number_line, conta
 use Rattle.text_scripts.specs.script_text.ScriptText.{timer_text, statuses_text, options_text, fail_line, failures_from}
 use Rattle.text_scripts.specs.script_text.ScriptText.{lost_line, kind_line, item_line, script_text}
 
--- ---- digits
-encode-append : (digits xs ys : List ℕ) → encode_with digits (xs ++ ys) ≡ encode_with digits xs ++ encode_with digits ys
-unfolding encode_with
-encode-append digits [] ys = refl
-encode-append digits (x ∷ xs) ys =
-    ap (λ l. slice_index digits (x / 16) ∷ slice_index digits (x % 16) ∷ l) (encode-append digits xs ys)
-
-pub digits-none : (before : List ℕ) → before ≡ before ++ encode_lower []
-unfolding encode_with
-digits-none before = sym (append-nil before)
-
-pub digits-then : (octets : List ℕ) (at end : ℕ) → at ≤ end
-    → encode_lower (take end octets) ≡ encode_lower (take at octets) ++ encode_lower (take (end - at) (drop at octets))
-digits-then octets at end low =
-    ap (λ n. encode_lower (take n octets)) (let e : end ≡ at + (end - at) = omega (arith, low) in e)
-    ∙ ap encode_lower (take-add at (end - at) octets)
-    ∙ encode-append lower_digits (take at octets) (take (end - at) (drop at octets))
-
 -- ---- one text behind another
 pub adds-then : {T : Type 0} (stands_for : T → Start → List ℕ → Type 0) (old mid new : T) (text more : List ℕ) →
     Adds stands_for old mid text → Adds stands_for mid new more → Adds stands_for old new (text ++ more)

@@ -13,54 +13,22 @@ use crate::capture_file::record_clock::Clock;
 use check_crc32::ethernet_fcs;
 use octet_io::{ByteSink, Failed, take_back};
 use text_got::GotLines;
-use text_hex::encode;
 use text_report::TextCursor;
-
-/// The octets of which digits are made at once.
-const PIECE: usize = 4_096;
-
-/// Room for their digits.
-const ROOM: usize = 8_192;
 
 /// The octets that a frame without its FCS has at least.
 const LEAST: usize = 60;
 
-/// Makes the start of a line.
-fn start_line(due: u64, out: &mut [u8]) -> usize
-    requires { 64 ≤ length out.old }
-    ensures within { result ≤ 64 }
-    ensures line { take result out.new ≡ line_start due }
+/// Writes the start of a line.
+fn start_line<K: ByteSink>(due: u64, got: &mut GotLines<K>)
+    ensures { (start : Start) (before : List ℕ) → HasText K.written K.faults got.old start before →
+        HasText K.written K.faults got.new start (before ++ line_start due) }
 {
-    let mut line = TextCursor::new(out);
+    let mut room = [0u8; 64];
+    let mut line = TextCursor::new(&mut room);
     line.number(b"frame ", due);
     line.text(b" ");
-    line.end()
-}
-
-/// Writes some digits.
-fn add_piece<K: ByteSink>(octets: &[u8], room: &mut [u8], got: &mut GotLines<K>)
-    requires few { length octets.now ≤ 4096 }
-    requires room { 8192 ≤ length room.old }
-    ensures { (start : Start) (before : List ℕ) → HasText K.written K.faults got.old start before →
-        HasText K.written K.faults got.new start (before ++ encode_lower octets.now) }
-{
-    let (digits, _) = room.split_at_mut(2 * octets.len());
-    encode(octets, digits);
-    got.line(digits);
-}
-
-/// Writes the digits of octets.
-fn add_hex<K: ByteSink>(octets: &[u8], room: &mut [u8], got: &mut GotLines<K>)
-    requires { 8192 ≤ length room.old }
-    ensures { (start : Start) (before : List ℕ) → HasText K.written K.faults got.old start before →
-        HasText K.written K.faults got.new start (before ++ encode_lower octets.now) }
-{
-    let mut at = 0;
-    while at < octets.len() {
-        let end = octets.len().min(at + PIECE);
-        add_piece(&octets[at..end], room, got);
-        at = end;
-    }
+    let end = line.end();
+    got.line(&room[..end]);
 }
 
 /// A frame without its FCS, filled up with zeros where it is short.
@@ -76,47 +44,37 @@ fn filled_up<'a>(octets: &'a [u8], room: &'a mut [u8; LEAST]) -> &'a [u8]
 }
 
 /// Writes the digits of a frame and of its FCS.
-fn add_checked<K: ByteSink>(octets: &[u8], room: &mut [u8], got: &mut GotLines<K>)
-    requires { 8192 ≤ length room.old }
+fn add_checked<K: ByteSink>(octets: &[u8], got: &mut GotLines<K>)
     ensures { (start : Start) (before : List ℕ) → HasText K.written K.faults got.old start before →
         HasText K.written K.faults got.new start
         (before ++ encode_lower (with_fcs octets.now)) }
 {
-    add_hex(octets, room, got);
-    add_piece(&ethernet_fcs(octets), room, got);
+    got.hex(octets);
+    got.hex(&ethernet_fcs(octets));
 }
 
 /// Writes the digits of a record's frame.
-fn add_frame<K: ByteSink>(has_fcs: bool, octets: &[u8], room: &mut [u8], got: &mut GotLines<K>)
-    requires { 8192 ≤ length room.old }
+fn add_frame<K: ByteSink>(has_fcs: bool, octets: &[u8], got: &mut GotLines<K>)
     ensures { (start : Start) (before : List ℕ) → HasText K.written K.faults got.old start before →
         HasText K.written K.faults got.new start
         (before ++ encode_lower (client_frame has_fcs octets.now)) }
 {
     if has_fcs {
-        add_hex(octets, room, got);
+        got.hex(octets);
     } else {
         let mut least = [0u8; LEAST];
-        add_checked(filled_up(octets, &mut least), room, got);
+        add_checked(filled_up(octets, &mut least), got);
     }
 }
 
 /// Writes the line of a record.
-fn add_line<K: ByteSink>(
-    has_fcs: bool,
-    due: u64,
-    octets: &[u8],
-    room: &mut [u8],
-    got: &mut GotLines<K>,
-)
-    requires { 8192 ≤ length room.old }
+fn add_line<K: ByteSink>(has_fcs: bool, due: u64, octets: &[u8], got: &mut GotLines<K>)
     ensures { (start : Start) (before : List ℕ) → HasText K.written K.faults got.old start before →
         HasText K.written K.faults got.new start (before ++ frame_text
         (record { due = due; frame = client_frame has_fcs octets.now })) }
 {
-    let end = start_line(due, room);
-    got.line(&room[..end]);
-    add_frame(has_fcs, octets, room, got);
+    start_line(due, got);
+    add_frame(has_fcs, octets, got);
     got.line(b"\n");
 }
 
@@ -126,13 +84,12 @@ fn add_lines<K: ByteSink>(form: Form, body: &[u8], got: &mut GotLines<K>)
         HasText K.written K.faults got.new start
         (before ++ frame_texts (frames_of form body.now)) }
 {
-    let mut room = [0u8; ROOM];
     let mut clock = Clock::new(form.unit);
     let mut rest = body;
     while let Some(record) = next_record(form.order, rest) {
         rest = record.rest;
         let due = clock.due(record.head);
-        add_line(form.has_fcs, due, record.octets, &mut room, got);
+        add_line(form.has_fcs, due, record.octets, got);
     }
 }
 

@@ -10,13 +10,6 @@ use crate::rate_load::LONGEST;
 use law_model::{FrameRoom, ItemKind, ItemList, ItemSort, Lent};
 use octet_io::ByteSink;
 use text_got::{GotLines, MayFail};
-use text_report::TextCursor;
-
-/// The octets of which digits are made at once.
-const PIECE: usize = 1_024;
-
-/// Room for their digits.
-const ROOM: usize = 2_048;
 
 /// Takes a text piece by piece.
 pub(super) trait TextOut {
@@ -48,33 +41,6 @@ pub(super) struct TextWriter<'a, K> {
     pub room: &'a mut FrameRoom,
 }
 
-/// Writes the digits of octets.
-fn put_digits<K: ByteSink>(octets: &[u8], got: &mut GotLines<K>)
-    ensures { (start : Start) (before : List ℕ) → HasText K.written K.faults got.old start before →
-        HasText K.written K.faults got.new start (before ++ encode_lower octets.now) }
-{
-    let mut room = [0u8; ROOM];
-    let mut at = 0;
-    while at < octets.len() {
-        let end = octets.len().min(at + PIECE);
-        put_piece(&octets[at..end], &mut room, got);
-        at = end;
-    }
-}
-
-/// Writes some of them.
-fn put_piece<K: ByteSink>(octets: &[u8], room: &mut [u8], got: &mut GotLines<K>)
-    requires few { length octets.now ≤ 1024 }
-    requires room { 2048 ≤ length room.old }
-    ensures { (start : Start) (before : List ℕ) → HasText K.written K.faults got.old start before →
-        HasText K.written K.faults got.new start (before ++ encode_lower octets.now) }
-{
-    let mut digits = TextCursor::new(room);
-    digits.hex(octets);
-    let end = digits.end();
-    got.line(&room[..end]);
-}
-
 impl<'a, K: ByteSink> TextOut for TextWriter<'a, K> {
     ghost use Rattle.text_got.specs.TextSoFar.{HasText};
 
@@ -86,9 +52,9 @@ impl<'a, K: ByteSink> TextOut for TextWriter<'a, K> {
 
     fn digits(&mut self, items: &ItemList, number: u32) {
         match items.lend(number, self.room) {
-            Lent::Kept(ItemKind::Frame(octets)) => put_digits(&octets.0, &mut self.got),
+            Lent::Kept(ItemKind::Frame(octets)) => self.got.hex(&octets.0),
             Lent::Kept(_) => {}
-            Lent::Drawn => put_digits(self.room.octets(), &mut self.got),
+            Lent::Drawn => self.got.hex(self.room.octets()),
         }
     }
 

@@ -9,7 +9,7 @@ use Rattle.text_captures.proofs.capture_file.frames_as_script.add_checked.Goals 
 pub returns : goal.returns
 returns g c start before has =
     let octets = c.args.octets.now in
-    subst (HasText g.K.ByteSink.written g.K.ByteSink.faults c.add_piece.new.got start)
+    subst (HasText g.K.ByteSink.written g.K.ByteSink.faults c.hex-2.new.self start)
     (ap (λ l. before ++ encode_lower octets ++ encode_lower l) c.ethernet_fcs.ensures
     ∙ append_assoc before (encode_lower octets) (encode_lower (fcs_in least_first octets))
     ∙ ap (λ l. before ++ l) (sym (digits-append octets (fcs_in least_first octets))))

@@ -11,7 +11,6 @@ pub loop-record-init : goal.loop-record-init
 loop-record-init g c = (
   [],
   read-begun c.args.form c.args.body.now c.new-clock.result c.new-clock.ensures.unit c.new-clock.ensures.stands,
-  omega arith,
   λ start text has.
       subst (HasText g.K.ByteSink.written g.K.ByteSink.faults c.args.got.now start)
       (sym (ap (λ l. text ++ l) (texts-none c.args.form) ∙ append-nil text)) has,
@@ -28,7 +27,6 @@ loop-record-preserved g c =
     c.in-Some.ensures.some c.due-due.ensures.unit c.due-due.ensures.stands in (
       before ++ record { head = head; octets = octets } ∷ [],
       more,
-      omega (arith, c.add_line.auto.room, c.loop-record.invariant.2),
       λ start text has.
           let old = frame_texts (frames_behind form [] before) in
           subst (HasText g.K.ByteSink.written g.K.ByteSink.faults c.add_line.new.got start)
@@ -36,7 +34,7 @@ loop-record-preserved g c =
           (record { due = c.due-due.result; frame = client_frame form.has_fcs octets }))
           ∙ ap (λ l. text ++ l) (texts-more form before (record { head = head; octets = octets }) c.due-due.result
           (c.due-due.ensures.due ∙ due-is form _ _ _ _ more)))
-          (c.add_line.ensures start (text ++ old) (c.loop-record.invariant.3 start text has)),
+          (c.add_line.ensures start (text ++ old) (c.loop-record.invariant.2 start text has)),
     )
 
 pub returns : goal.returns
@@ -46,4 +44,4 @@ returns g c start text has =
     c.in_default.ensures.none c.loop-record.invariant.1.cut in
     subst (HasText g.K.ByteSink.written g.K.ByteSink.faults c.loop-record.got start)
     (ap (λ l. text ++ frame_texts (frames_behind form [] l)) (sym ended.0))
-    (c.loop-record.invariant.3 start text has)
+    (c.loop-record.invariant.2 start text has)

@@ -10,7 +10,7 @@ use Rattle.text_captures.proofs.capture_file.frames_as_script.add_lines.Given as
 
 abbrev pub invariant-loop-record : goal.invariant-loop-record
 invariant-loop-record g l =
-    (before : List Record) × HasRead l.form l.body l.rest l.clock before × (8192 ≤ length l.room)
+    (before : List Record) × HasRead l.form l.body l.rest l.clock before
     × ((start : Start) (text : List ℕ) → HasText g.K.ByteSink.written g.K.ByteSink.faults l.fn.got start text
     → HasText g.K.ByteSink.written g.K.ByteSink.faults l.got start
     (text ++ frame_texts (frames_behind l.form [] before)))

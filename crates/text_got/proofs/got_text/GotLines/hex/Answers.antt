@@ -2,14 +2,13 @@
 use Rattle.std.proofs.Common.{◌≤◌, ◌-◌, ◌∙◌, ◌++◌, take, drop, sym, ap, subst, arith, append_assoc}
 use Rattle.hex.specs.Hex.{encode_lower}
 use Rattle.text_got.specs.TextSoFar.{HasText}
-use Rattle.text_captures.proofs.CaptureRecordReadingLaws.{digits-none, digits-then}
-use Rattle.text_captures.proofs.capture_file.frames_as_script.add_hex.Goals as goal
+use Rattle.text_got.proofs.ToldTextGrowthLaws.{digits-none, digits-then}
+use Rattle.text_got.proofs.got_text.GotLines.hex.Goals as goal
 
 pub loop-at-init : goal.loop-at-init
 loop-at-init g c = record {
   within = omega arith;
-  room = c.requires;
-  grows = λ start before has. subst (HasText g.K.ByteSink.written g.K.ByteSink.faults c.args.got.now start)
+  grows = λ start before has. subst (HasText g.K.ByteSink.written g.K.ByteSink.faults c.args.self.now start)
       (digits-none before) has;
 }
 
@@ -21,12 +20,11 @@ loop-at-preserved g c =
     let low : at ≤ end = omega (arith, c.min-end.ensures, c.loop-at-test.true) in
     record {
       within = omega (arith, c.min-end.ensures);
-      room = omega (arith, c.add_piece.auto.room, c.loop-at.invariant.room);
       grows =
           λ start before has.
-          subst (HasText g.K.ByteSink.written g.K.ByteSink.faults c.add_piece.new.got start)
+          subst (HasText g.K.ByteSink.written g.K.ByteSink.faults c.digits.new.self start)
           (append_assoc before (encode_lower (take at octets)) (encode_lower (take (end - at) (drop at octets)))
           ∙ ap (λ l. before ++ l) (sym (digits-then octets at end low)))
-          (c.add_piece.ensures start (before ++ encode_lower (take at octets))
+          (c.digits.ensures start (before ++ encode_lower (take at octets))
           (c.loop-at.invariant.grows start before has));
     }
