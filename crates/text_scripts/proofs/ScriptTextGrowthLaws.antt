@@ -1,6 +1,6 @@
 -- The text of a script, as it grows piece by piece, and its length.
-use Rattle.std.proofs.Common.{◌≡◌, ℕ, suc, ◌+◌, ◌-◌, ◌*◌, ◌/◌, ◌%◌, ◌<◌, ◌≤◌, List, [], ◌∷◌, ◌++◌, length, take, drop}
-use Rattle.std.proofs.Common.{refl, sym, ◌∙◌, ap, ap₂, subst, arith, append_assoc, append-nil, take-add, slice_index, Some, inl, inr}
+use Rattle.std.proofs.Common.{◌≡◌, ℕ, suc, ◌+◌, ◌*◌, ◌<◌, List, [], ◌∷◌, ◌++◌, length, take, drop}
+use Rattle.std.proofs.Common.{refl, sym, ◌∙◌, ap, ap₂, subst, arith, append_assoc, append-nil, Some, inl, inr}
 use Rattle.std.proofs.Common.{take-append-drop, length-append, slice_index_or}
 use Rattle.std.specs.Prelude.{min, decimal, codes, IsTrue, nat_lt}
 use Rattle.std.specs.List.{flat_map, slice_get}
@@ -9,7 +9,7 @@ use Rattle.std.proofs.lemmas.List.{take_more, flat_map_more, length-take}
 use Rattle.std.proofs.lemmas.Option.{slice_get_cases}
 use Rattle.std.proofs.lemmas.Bool.{cases_lt, lt-ltb, ltb-true}
 use Rattle.std.proofs.lemmas.Bool.Decides.{nat_tests}
-use Rattle.hex.specs.Hex.{encode_with, encode_lower, lower_digits}
+use Rattle.hex.specs.Hex.{encode_lower, lower_digits}
 use Rattle.hex.proofs.HexLemmas.{length-encode_with}
 use Rattle.law_model.specs.Common.{Start, longest_input}
 use Rattle.law_model.specs.declared.window_types.Window.{Window}
