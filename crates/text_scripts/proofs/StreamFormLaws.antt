@@ -1,5 +1,5 @@
--- A script's streams have their form and ranges; and where lines have them and are a script with each stream written out,
--- they are that script as they stand.
+-- A script's streams have their form and ranges; and where lines have them and are a script with each stream written
+-- out, they are that script as they stand.
 use Rattle.std.proofs.Common.{◌≡◌, ◌↔◌, ℕ, zero, suc, ◌+◌, ◌-◌, ◌<◌, ◌≤◌, nat_lt, ◌&&◌, not, Bool, true, false}
 use Rattle.std.proofs.Common.{List, [], ◌∷◌, ◌++◌, length, map, drop, ap, ap₂, sym, ◌∙◌, refl, arith, subst, inl, inr}
 use Rattle.std.proofs.Common.{Option, None, Some, option_map, append_assoc, length-append}

@@ -12,8 +12,8 @@ use Rattle.text_scripts.specs.declared.script_read.script_keyword.Keyword.TheVar
 use Rattle.text_scripts.specs.script_read.Statements.{keyword_of, parts_of, are_digits, rate_in}
 
 -- ---- form and ranges
--- the words behind `stream`, in a session of so many ticks: sizes with commas between, megabits a second, the first tick
--- and the end, and a number of one to twenty digits, below 2^64
+-- the words behind `stream`, in a session of so many ticks: sizes with commas between, megabits a second, the first
+-- tick and the end, and a number of one to twenty digits, below 2^64
 pub record IsStream (ticks : ℕ) (ws : List (List ℕ)) : Type 0 where
   pub five : length ws ≡ 5
   pub sizes : list_all is_number (parts_of (word_at 0 ws)) ≡ true

@@ -22,8 +22,8 @@ pub fn fault_law()
 {}
 
 /// A text is a script exactly where each of its lines `stream` has its form and ranges, with END at most the script's
-/// ticks, and a text of the same lines with each stream written out, as the lines that the command `stream` of its words
-/// writes, is that script, however long both are. Each has at most 268,435,456 items, as `valid_law` has it.
+/// ticks, and a text of the same lines with each stream written out, as the lines that the command `stream` of its
+/// words writes, is that script, however long both are. Each has at most 268,435,456 items, as `valid_law` has it.
 pub fn stream_law()
     ensures same { (text other : List ℕ) (script : Script) →
         lines other ≡ all_written (lines text) →
