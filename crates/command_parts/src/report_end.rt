@@ -4,8 +4,9 @@ ghost use Rattle.text_report.specs.ReportLines.{refused_texts, total_text};
 ghost use Rattle.law_model.specs.Common.{Start};
 ghost use Rattle.text_got.specs.TextSoFar.{HasText};
 
-use law_model::{Refusals, Totals};
+use law_model::Totals;
 use octet_io::ByteSink;
+use terminal_group::Refusals;
 use text_got::GotLines;
 use text_report::{REFUSED_ROOM, TOTAL_ROOM, refused_line, total_line};
 

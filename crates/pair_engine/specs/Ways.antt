@@ -42,7 +42,7 @@ pub record IsNewCore (script : Script) (core : Parts) : Type 0 where
 
 pub record IsNewWay (script : Script) (own : PairWay) : Type 0 where
   pub script_is : own.script ≡ script
-  pub landing : own.landing ≡ none_landed (bare_items script.items)
+  pub landing : own.landing ≡ none_landed script.config.lines (bare_items script.items)
   pub core : IsNewCore script own.core
   pub said : own.said ≡ record { packets = []; room = script.config.lag }
 

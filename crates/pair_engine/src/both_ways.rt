@@ -13,10 +13,11 @@ ghost use Rattle.pair_engine.specs.Ways.{IsNewWay};
 use crate::pair_answers::{PairMoved, moved_on};
 use crate::pair_way::PairWay;
 use crate::ways_meet::{take_way_row, tick_both, tick_stall};
-use law_model::{FrameOut, Refusals, Script, Totals};
+use law_model::{FrameOut, Script, Totals};
 use law_pair::{PairEvent, Way};
 use std::alloc::{AllocError, Global};
 use std::marker::Model;
+use terminal_group::Refusals;
 
 /// Two sessions, one each way, that tick together.
 pub struct Pair {

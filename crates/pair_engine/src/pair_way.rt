@@ -199,7 +199,8 @@ fn open_parts(
 ) -> Result<(Landing, WayCore, SaidRing), AllocError>
     requires { IsWay script.old }
     ensures script { IfOk result (λ parts. script.new ≡ script.old) }
-    ensures landing { IfOk result (λ parts. parts.0 ≡ none_landed (bare_items script.old.items)) }
+    ensures landing { IfOk result (λ parts. parts.0 ≡ none_landed
+        script.old.config.lines (bare_items script.old.items)) }
     ensures core { IfOk result (λ parts. IsNewCore script.old parts.1) }
     ensures said { IfOk result (λ parts.
         parts.2 ≡ record { packets = []; room = script.old.config.lag }) }

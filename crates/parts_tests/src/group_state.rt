@@ -1,14 +1,16 @@
 //! A small script by hand, over real rings.
 ghost use Rattle.std.specs.Prelude.{◌≡◌, length, IfOk};
 ghost use Rattle.law_model.specs.Common.{IsValid};
+ghost use Rattle.terminal_group.specs.Item.{bare_items};
+ghost use Rattle.thread_group.specs.Group.{items_of};
 ghost use Rattle.thread_group.specs.GroupRings.{AreUnused};
 
-use law_model::Script;
+use law_model::{FrameRoom, Script};
 use member_cells::{BackCell, Container};
 use std::alloc::{AllocError, Global};
-use terminal_group::ItemRef;
+use terminal_group::lent_item;
 use text_scripts::script_read::read_script;
-use thread_group::{GroupState, TickAnswer};
+use thread_group::{GroupState, SubmitFault, TickAnswer};
 use thread_rings::{LineEnds, RingIn, RingOut, back_ring, line_rings};
 
 /// The ends of a number of send rings.
@@ -34,22 +36,32 @@ fn send_rings(
     Ok((tx, outs))
 }
 
-/// A group, and the far ends of its rings.
+/// A group of a script, and the far ends of its rings.
 #[derive(Drop)]
 struct Group {
+    script: Script,
+    room: FrameRoom,
     state: GroupState,
     back: RingOut<BackCell>,
     outs: Vec<RingIn<Container>>,
+    ghost items: { items_of state ≡ bare_items script.items },
 }
 
 /// A group of a script, with room for so many entries of the journal and so many octets of frames.
-fn group_of(alloc: Global, script: &Script, entries: u32, bytes: u64) -> Result<Group, AllocError>
-    requires { IsValid script.now }
+fn group_of(alloc: Global, script: Script, entries: u32, bytes: u64) -> Result<Group, AllocError>
+    requires { IsValid script }
 {
+    let room = FrameRoom::new(alloc)?;
     let (tx, outs) = send_rings(alloc, script.config.lines)?;
     let (back, back_in) = back_ring(alloc)?;
-    let state = GroupState::new(alloc, script, entries, bytes, tx, back_in)?;
-    Ok(Group { state, back, outs })
+    let state = GroupState::new(alloc, &script, entries, bytes, tx, back_in)?;
+    Ok(Group {
+        script,
+        room,
+        state,
+        back,
+        outs,
+    })
 }
 
 /// The group of a text.
@@ -58,13 +70,15 @@ fn group_in(alloc: Global, text: &str, entries: u32, bytes: u64) -> Option<Group
         return None;
     }
     match read_script(alloc, text.as_bytes()) {
-        Ok(script) => group_of(alloc, &script, entries, bytes).ok(),
+        Ok(script) => group_of(alloc, script, entries, bytes).ok(),
         Err(_) => None,
     }
 }
 
 /// What so many ticks are answered, if it is the same each time.
-fn ticked(group: &mut GroupState, times: u32) -> Option<TickAnswer> {
+fn ticked(group: &mut GroupState, times: u32) -> Option<TickAnswer>
+    ensures { items_of group.new ≡ items_of group.old }
+{
     let first = group.tick();
     for _ in 1..times {
         if group.tick() != first {
@@ -74,6 +88,15 @@ fn ticked(group: &mut GroupState, times: u32) -> Option<TickAnswer> {
     Some(first)
 }
 
+/// What the item of this number is answered, where there is one.
+fn submitted(group: &mut Group, number: u32) -> Option<Result<(), SubmitFault>> {
+    if number >= group.script.items.len() {
+        return None;
+    }
+    let lent = group.script.items.lend(number, &mut group.room);
+    Some(group.state.submit(number, lent_item(lent, &group.room)))
+}
+
 /// Brings a return packet, where there is room for it.
 fn bring(back: &mut RingOut<BackCell>) {
     if back.ready() {
@@ -81,20 +104,17 @@ fn bring(back: &mut RingOut<BackCell>) {
     }
 }
 
-/// Appends the answer to the command of this number, to its frame, or one that is an octet too short, to so many ticks,
-/// or, where a return packet comes, what is counted so far and the first two refusals.
+/// Appends the answer to the item of this number, to so many ticks, or, where a return packet comes, what is counted so
+/// far and the first two refusals.
 fn tell(group: &mut Group, step: &str, number: u32, told: &mut String) -> Result<(), AllocError> {
-    let state = &mut group.state;
     match step {
-        "add" => write!(told, "{:?}", state.submit(number, ItemRef::Add(0))),
-        "frame" => write!(told, "{:?}", state.submit(number, ItemRef::Frame(&[7; 64]))),
-        "short" => write!(told, "{:?}", state.submit(number, ItemRef::Frame(&[7; 63]))),
-        "tick" => write!(told, "{:?}", ticked(state, number)),
+        "item" => write!(told, "{:?}", submitted(group, number)),
+        "tick" => write!(told, "{:?}", ticked(&mut group.state, number)),
         _ => {
             bring(&mut group.back);
-            let mut refusals = state.refusals();
+            let mut refusals = group.state.refusals();
             let (first, second) = (refusals.next(), refusals.next());
-            write!(told, "{:?} {first:?} {second:?}", state.totals())
+            write!(told, "{:?} {first:?} {second:?}", group.state.totals())
         }
     }
 }
@@ -122,21 +142,23 @@ fn first_wrong(alloc: Global, group: Option<Group>, rows: &'static str) -> Optio
 }
 
 /// A command and a frame that the journal has room for.
-const LANDING: &str =
-    "lines 1\ndelays 0\nring 1\nlag 1\nticks 41\nlost 0 1\nadd 0 0\nadd 0 0\nframe 5 07\n";
+const LANDING: &str = "lines 1\ndelays 0\nring 1\nlag 1\nticks 41\nlost 0 1\nadd 0 0\nadd 0 0\n\
+    frame 5 \
+    0707070707070707070707070707070707070707070707070707070707070707\
+    0707070707070707070707070707070707070707070707070707070707070707\n";
 
 /// What is due lands before a tick.
 const LANDED: &str = "\
-    frame 2 => Err(Early { now: 0 })\n\
-    add 1 => Err(NotNext { next: Some(0) })\n\
+    item 2 => Some(Err(Early { now: 0 }))\n\
+    item 1 => Some(Err(NotNext { next: Some(0) }))\n\
     tick 1 => Some(Held { item: 0 })\n\
-    add 0 => Ok(())\n\
+    item 0 => Some(Ok(()))\n\
     tick 1 => Some(Held { item: 1 })\n\
-    add 1 => Err(Command(AlreadyIn))\n\
-    add 1 => Err(NotNext { next: None })\n\
+    item 1 => Some(Err(Command(AlreadyIn)))\n\
+    item 1 => Some(Err(NotNext { next: None }))\n\
     tick 5 => Some(Ticked)\n\
     tick 1 => Some(Held { item: 2 })\n\
-    frame 2 => Ok(())\n\
+    item 2 => Some(Ok(()))\n\
     tick 19 => Some(Ticked)\n\
     tick 2 => Some(BackMissing { packet: 0 })\n\
     back => Totals { ticks: 24, taken: 0, frames: 1, commands: 1, refused: 1, got: 0 } \
@@ -146,27 +168,39 @@ const LANDED: &str = "\
     back => Totals { ticks: 32, taken: 0, frames: 1, commands: 1, refused: 1, got: 0 } \
         Some((1, Command(AlreadyIn))) None";
 
-/// A frame and commands whose journal has one entry, and an octet too few for the frame.
-const FULL: &str = "lines 1\ndelays 0\nring 1\nlag 1\nticks 1\nframe 0 07\nadd 0 0\nadd 0 0\n";
+/// A frame and a command whose journal has one entry, and an octet too few for the frame.
+const FULL: &str = "lines 1\ndelays 0\nring 1\nlag 1\nticks 1\nframe 0 \
+    0707070707070707070707070707070707070707070707070707070707070707\
+    0707070707070707070707070707070707070707070707070707070707070707\nadd 0 0\n";
+
+/// The frame waits for room.
+const WAITING: &str = "\
+    item 0 => Some(Err(JournalFull { entries: 1, bytes: 63 }))\n\
+    item 1 => Some(Ok(()))\n\
+    item 0 => Some(Err(JournalFull { entries: 0, bytes: 63 }))\n\
+    tick 1 => Some(Held { item: 0 })";
+
+/// A short frame, and commands.
+const SHORT: &str = "lines 1\ndelays 0\nring 1\nlag 1\nticks 1\nframe 0 07\nadd 0 0\nadd 0 0\n";
 
 /// The source refuses before a full journal does.
 const REFUSED: &str = "\
-    frame 0 => Err(JournalFull { entries: 1, bytes: 63 })\n\
-    add 1 => Ok(())\n\
-    add 2 => Err(Command(AlreadyIn))\n\
-    frame 0 => Err(JournalFull { entries: 0, bytes: 63 })\n\
+    item 1 => Some(Ok(()))\n\
+    item 2 => Some(Err(Command(AlreadyIn)))\n\
     tick 1 => Some(Held { item: 0 })\n\
-    short 0 => Err(Frame(Length { n: 63 }))\n\
+    item 0 => Some(Err(Frame(Length { n: 1 })))\n\
+    item 3 => None\n\
     tick 1 => Some(Ticked)\n\
     back => Totals { ticks: 1, taken: 0, frames: 0, commands: 1, refused: 2, got: 0 } \
-        Some((0, Frame(Length { n: 63 }))) Some((2, Command(AlreadyIn)))";
+        Some((0, Frame(Length { n: 1 }))) Some((2, Command(AlreadyIn)))";
 
 #[test]
 fn what_is_due_lands_or_is_refused(rt: HostRuntime) {
     let alloc = rt.alloc();
     let wrong = [
         first_wrong(alloc, group_in(alloc, LANDING, 2, 64), LANDED),
-        first_wrong(alloc, group_in(alloc, FULL, 1, 63), REFUSED),
+        first_wrong(alloc, group_in(alloc, FULL, 1, 63), WAITING),
+        first_wrong(alloc, group_in(alloc, SHORT, 1, 63), REFUSED),
     ];
-    assert_eq!(rt; wrong, [None; 2]);
+    assert_eq!(rt; wrong, [None; 3]);
 }

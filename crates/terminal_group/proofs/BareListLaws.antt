@@ -1,23 +1,27 @@
 -- Items without octets, with streams among them: how many there are, and what stands at a number.
 use Rattle.std.proofs.Common.{◌≡◌, ℕ, zero, suc, ◌+◌, ◌-◌, ◌<◌, ◌≤◌, List, [], ◌∷◌, map, length, slice_get, Some, None}
-use Rattle.std.proofs.Common.{◌⊎◌, ◌++◌, take, drop, option_map, refl, sym, ◌∙◌, ap, subst, arith, inl, inr, true, false}
+use Rattle.std.proofs.Common.{◌⊎◌, ◌++◌, take, drop, option_map, refl, sym, ◌∙◌, ap, subst, arith, inl, inr, true, false, All, get_or}
 use Rattle.std.proofs.lemmas.Bool.{cases_lt, lt-ltb, le-ltb}
 use Rattle.std.proofs.lemmas.Option.{slice_get_within, slice_get-map}
-use Rattle.std.proofs.lemmas.List.{map-append, take-map, drop-map, length-map}
+use Rattle.std.proofs.lemmas.List.{map-append, take-map, drop-map, length-map, take-append-drop}
+use Rattle.std.proofs.lemmas.List.Elements.{All-append}
 use Rattle.std.proofs.lemmas.Simd.{map-map}
-use Rattle.law_rates.specs.Rates.{RateFrame, IsRate, count_of, due_of, frame_at, frames}
+use Rattle.law_rates.specs.Rates.{RateFrame, IsRate, count_of, frame_at, frames}
 use Rattle.law_rates.specs.declared.rate_frames.Rate.{Rate}
 use Rattle.law_model.specs.declared.script_types.Item.{Item}
+use Rattle.law_model.specs.declared.script_items.item_list.ItemHead.{ItemHead}
 use Rattle.law_model.specs.declared.script_items.streams.Stream.{Stream}
-use Rattle.law_model.specs.Common.{most_items}
-use Rattle.law_model.specs.session.Items.{stream_item}
+use Rattle.law_model.specs.Common.{most_items, longest_offer}
+use Rattle.law_model.specs.declared.script_types.ItemKind.{ItemKind}
+use Rattle.law_model.specs.declared.script_types.ItemKind.TheVariants.{Frame, Add, Remove}
+use Rattle.law_model.specs.session.ValidScript.{IsItem, IsKind}
+use Rattle.law_model.specs.session.Items.{IsShort, octets_in_kind, stream_item}
 use Rattle.law_model.specs.session.Streams.{AreStreams, FitStreams, mixed_from, streamed_in, streamed_before, stream_at, behind_of}
 use Rattle.law_model.proofs.StreamPlacesLaws.{length-mixed, get_single, get_streamed, stream_facts, behind_least}
-use Rattle.law_model.proofs.ListLaws.{slice_get-inside, at-range}
+use Rattle.law_model.proofs.ListLaws.{slice_get-inside, at-range, All-front, All-after}
 use Rattle.terminal_group.specs.BareList.{bare_frame, bare_mixed, AreBare}
-use Rattle.terminal_group.specs.Item.{bare, bare_items}
+use Rattle.terminal_group.specs.Item.{bare, bare_items, item_in}
 use Rattle.terminal_group.specs.ItemPlaces.{is_frame, is_command}
-use Rattle.terminal_group.specs.Landed.{due_in, due_at}
 
 -- ---- how many there are
 pub bare_length : (singles : List Item) (streams : List Stream) → AreBare singles streams →
@@ -166,22 +170,23 @@ frame_there singles streams number k s item are is first low there =
     let found = sym (facts.items k first low) ∙ there in
     (all_frames (frames s.rate) (k - s.first) item found, no_command (frames s.rate) (k - s.first) item found)
 
--- and is due as the rate says
+-- and is what the rate says
 frame_in : (rate : Rate) (k : ℕ) → k < count_of rate → slice_get (frames rate) k ≡ Some (frame_at rate k)
 unfolding frames
 frame_in rate k low = at-range (frame_at rate) (count_of rate) k low
 
-pub stream_due : (singles : List Item) (streams : List Stream) (number : ℕ) (s : Stream) → AreBare singles streams →
-    stream_at streams number ≡ Some s →
-    due_at (bare_mixed singles streams) number ≡ due_of s.rate (number - s.first)
-stream_due singles streams number s are is =
+pub stream_told : (singles : List Item) (streams : List Stream) (now : List Item) (number : ℕ) (s : Stream) →
+    AreBare singles streams → bare_mixed singles streams ≡ now → stream_at streams number ≡ Some s →
+    slice_get now number ≡ Some (bare_frame (frame_at s.rate (number - s.first)))
+stream_told singles streams now number s are view is =
     let facts = streamed_there singles streams number s are is in
     let first = facts.first in
     let behind = facts.behind in
     let count = facts.count in
-    ap due_in (facts.items number first behind
+    ap (λ (l : List Item). slice_get l number) (sym view)
+    ∙ facts.items number first behind
     ∙ slice_get-map bare_frame (frames s.rate) (number - s.first)
-    ∙ ap (option_map bare_frame) (frame_in s.rate (number - s.first) (omega (arith, first, behind, count))))
+    ∙ ap (option_map bare_frame) (frame_in s.rate (number - s.first) (omega (arith, first, behind, count)))
 
 -- ---- the items of a script without octets
 bare_frames : (frames : List RateFrame) → map bare (map stream_item frames) ≡ map bare_frame frames
@@ -229,25 +234,51 @@ copied_are items singles copy streams among is bare_is same apart fit few =
     } in
     subst (λ (l : List Stream). AreBare copy l) (sym same) of_streams
 
+-- what all items are, the single ones are
+pub all-singles : (P : Item → Type 0) (streams : List Stream) (from : ℕ) (singles : List Item) →
+    All P (mixed_from stream_item from singles streams) → All P singles
+unfolding mixed_from
+all-singles P [] from singles all = all
+all-singles P (stream ∷ streams) from singles all =
+    let gap = stream.first - from in
+    let front : List Item = take gap singles in
+    let rest : List Item = drop gap singles in
+    let drawn : List Item = map stream_item (frames stream.rate) in
+    let behind : List Item = mixed_from stream_item stream.behind rest streams in
+    subst (All P) (take-append-drop gap singles)
+    (All-append P front rest (All-front P front (drawn ++ behind) all)
+    (all-singles P streams stream.behind rest
+    (All-after P drawn behind (All-after P front (drawn ++ behind) all))))
+
+-- the length of an item of a script is within 16 bits
+short-kind : (kind : ItemKind) → IsKind kind → octets_in_kind kind ≤ longest_offer
+short-kind (Frame octets) is = is.0.1
+short-kind (Add line) is = omega arith
+short-kind (Remove line) is = omega arith
+
+pub all-short : (ticks : ℕ) (items : List Item) → All (IsItem ticks) items → All IsShort items
+all-short ticks items all = λ k d inside. short-kind (get_or items k d).kind (all k d inside).1
+
 -- ---- what is seen of a list at a number
-pub single_low : (singles : List Item) (streams : List Stream) (now slice : List Item) (number index : ℕ) →
-    AreBare singles streams → bare_mixed singles streams ≡ now →
+pub single_low : (heads slice : List ItemHead) (streams : List Stream) (now : List Item) (number index : ℕ) →
+    AreBare (map item_in heads) streams → bare_mixed (map item_in heads) streams ≡ now →
     (stream_at streams number ≡ None) × (index + streamed_before streams number ≡ number) →
-    slice ≡ singles → number < length now → index < length slice
-single_low singles streams now slice number index are view at same inside =
-    let low = single_within singles streams number index are at.0 at.1
+    slice ≡ heads → number < length now → index < length slice
+single_low heads slice streams now number index are view at same inside =
+    let low = single_within (map item_in heads) streams number index are at.0 at.1
     (subst (λ (l : List Item). number < length l) (sym view) inside) in
     let size = ap length same in
-    omega (arith, low, size)
+    omega (arith, low, size, length-map heads item_in)
 
-pub single_told : (singles : List Item) (streams : List Stream) (now slice : List Item) (number index : ℕ)
-    (kept : Item) → AreBare singles streams → bare_mixed singles streams ≡ now →
+pub single_told : (heads slice : List ItemHead) (streams : List Stream) (now : List Item) (number index : ℕ)
+    (kept : ItemHead) → AreBare (map item_in heads) streams → bare_mixed (map item_in heads) streams ≡ now →
     (stream_at streams number ≡ None) × (index + streamed_before streams number ≡ number) →
-    slice ≡ singles → slice_get slice index ≡ Some kept → slice_get now number ≡ Some kept
-single_told singles streams now slice number index kept are view at same there =
+    slice ≡ heads → slice_get slice index ≡ Some kept → slice_get now number ≡ Some (item_in kept)
+single_told heads slice streams now number index kept are view at same there =
     ap (λ (l : List Item). slice_get l number) (sym view)
-    ∙ single_there singles streams number index are at.0 at.1
-    ∙ ap (λ (l : List Item). slice_get l index) (sym same) ∙ there
+    ∙ single_there (map item_in heads) streams number index are at.0 at.1
+    ∙ slice_get-map item_in heads index
+    ∙ ap (option_map item_in) (ap (λ (l : List ItemHead). slice_get l index) (sym same) ∙ there)
 
 pub one_item : (now : List Item) (number : ℕ) (kept item : Item) → slice_get now number ≡ Some kept →
     slice_get now number ≡ Some item → kept ≡ item

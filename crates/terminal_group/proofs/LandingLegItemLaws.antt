@@ -3,7 +3,7 @@ use Rattle.std.proofs.Common.{◌≡◌, ℕ, suc, ◌+◌, ◌<◌, ◌≤◌, 
 use Rattle.std.proofs.Common.{fold, take, drop, length, slice_get, get_or, All, Option, Some, option_map, refl, sym}
 use Rattle.std.proofs.Common.{◌∙◌, ap, subst, arith}
 use Rattle.std.proofs.lemmas.List.{length-map, length-drop, get_or-drop}
-use Rattle.std.proofs.lemmas.Option.{slice_get-map, slice_get-get_or}
+use Rattle.std.proofs.lemmas.Option.{slice_get-map, slice_get-get_or, slice_get_within}
 use Rattle.law_model.proofs.ListLaws.{take-next, slice_get-inside}
 use Rattle.law_model.specs.Common.{Leg, DueCommand, DueFrame, order_of, orders_of, offers_of, scenario_by, steps_in}
 use Rattle.law_model.specs.Common.{lands_at, comes_at, Source, asked_all, refusal, Stream, stream_before}
@@ -25,9 +25,9 @@ use Rattle.law_walk.specs.Common.{Numbered, landed_items, landed_scenario, is_cl
 use Rattle.law_walk.specs.Common.{IsOfferAt, IsOrderAt}
 use Rattle.law_walk.proofs.LandedItemRefusalAndTotalLaws.{frame-dues, command-dues, offer-at, order-at, IsInserted}
 use Rattle.law_walk.proofs.LandedItemRefusalAndTotalLaws.{landed-frame, landed-command}
-use Rattle.terminal_group.specs.Item.{bare, bare_items}
+use Rattle.terminal_group.specs.Item.{bare, bare_kind, bare_items}
 use Rattle.terminal_group.specs.ItemPlaces.{is_frame, is_command, place_of}
-use Rattle.terminal_group.specs.Landed.{Landed, next_place, next_number, landed_of, due_in, due_at, AreAhead}
+use Rattle.terminal_group.specs.Landed.{Landed, next_place, next_number, landed_of, due_in, due_at, AreAhead, IsKept}
 use Rattle.terminal_group.specs.GivenItem.{met_by, with_kind}
 use Rattle.terminal_group.proofs.ItemPlaceAndHeldItemLaws.{count_of, place-found, offers-size, orders-size, bare-dues}
 use Rattle.terminal_group.proofs.ItemPlaceAndHeldItemLaws.{bare-place, frame-blind, command-blind}
@@ -82,6 +82,17 @@ module _ (items : List Item) (landed : Landed) (bared : landed.items ≡ bare_it
   bare-due number item here =
       ap due_in (ap (λ (l : List Item). slice_get l number) bared ∙ slice_get-map bare items number
       ∙ ap (option_map bare) here)
+
+  -- what is handed in as the item of a number is what is kept of it
+  pub kept-item : (number : ℕ) (kind : ItemKind) →
+      ((item : Item) → slice_get items number ≡ Some item → kind ≡ item.kind) → IsKept landed number kind
+  kept-item number kind handed found there =
+      let inside = slice_get_within landed.items number found there in
+      let (item, here) = slice_get-inside items number (omega (arith, inside, bare-size)) in
+      let e : Some (bare item) ≡ Some found = sym (ap (λ (l : List Item). slice_get l number) bared
+      ∙ slice_get-map bare items number ∙ ap (option_map bare) here) ∙ there in
+      let same : bare item ≡ found = cc in
+      ap (λ (i : Item). i.kind) (sym same) ∙ ap bare_kind (sym (handed item here))
 
   pub next-there : (client : Bool) (number : ℕ) → next_number landed client ≡ Some number →
       (number ≡ place_by client landed items) × (number < length items)

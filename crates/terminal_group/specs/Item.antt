@@ -1,8 +1,12 @@
 -- An item that is handed in, and what is kept of an item of a script.
-use Rattle.std.specs.Prelude.{ℕ, List, [], map, length}
+use Rattle.std.specs.Prelude.{ℕ, List, [], map, length, replicate}
+use Rattle.law_model.specs.session.Items.{head_of, sort_of}
 use Rattle.law_model.specs.declared.script_types.Item.{Item}
 use Rattle.law_model.specs.declared.script_types.ItemKind.{ItemKind}
 use Rattle.law_model.specs.declared.script_types.ItemKind.TheVariants.{Frame, Add, Remove}
+use Rattle.law_model.specs.declared.script_items.item_list.ItemHead.{ItemHead}
+use Rattle.law_model.specs.declared.script_items.item_list.ItemSort.{ItemSort}
+use Rattle.law_model.specs.declared.script_items.item_list.ItemSort.TheVariants.{Frame as frame_sort, Add as add_sort, Remove as remove_sort}
 use Rattle.terminal_group.specs.declared.item_ref.ItemRef.{ItemRef}
 use Rattle.terminal_group.specs.declared.item_ref.ItemRef.TheVariants.{Frame as frame_ref, Add as add_ref, Remove as remove_ref}
 
@@ -24,14 +28,21 @@ size_of (Frame octets) = length octets
 size_of (Add line) = 0
 size_of (Remove line) = 0
 
--- an item without the octets of its frame
+-- an item of which due ticks, sort and length are known, with zeros for the octets of a frame
+abbrev pub kind_in : ItemSort → ItemKind
+kind_in (frame_sort octets) = Frame (replicate octets 0)
+kind_in (add_sort line) = Add line
+kind_in (remove_sort line) = Remove line
+
+abbrev pub item_in : ItemHead → Item
+item_in head = record { due = head.due; kind = kind_in head.sort }
+
+-- so much of an item
 abbrev pub bare_kind : ItemKind → ItemKind
-bare_kind (Frame octets) = Frame []
-bare_kind (Add line) = Add line
-bare_kind (Remove line) = Remove line
+bare_kind kind = kind_in (sort_of kind)
 
 abbrev pub bare : Item → Item
-bare item = record { due = item.due; kind = bare_kind item.kind }
+bare item = item_in (head_of item)
 
 abbrev pub bare_items : List Item → List Item
 bare_items items = map bare items

@@ -1,27 +1,31 @@
 -- What has landed in a group.
-use Rattle.std.specs.Prelude.{◌≡◌, ℕ, ◌+◌, ◌<◌, ◌≤◌, nat_lt, ◌&&◌, not, Bool, true, false, if◌then◌else◌, List, [], ◌∷◌}
+use Rattle.std.specs.Prelude.{◌≡◌, ℕ, ◌+◌, ◌*◌, ◌<◌, ◌≤◌, nat_lt, ◌&&◌, not, Bool, true, false, if◌then◌else◌, List, [], ◌∷◌}
 use Rattle.std.specs.Prelude.{length, slice_get, All, Option, Some, None}
 use Rattle.std.specs.List.Sorted.{IsNonDecreasing}
 use Rattle.law_model.specs.Common.{Due, dues_of, frame_dues, command_dues, most_items}
 use Rattle.law_model.specs.declared.script_types.Item.{Item}
+use Rattle.law_model.specs.declared.script_types.ItemKind.{ItemKind}
 use Rattle.law_model.specs.declared.item_refusals.Refusal.{Refusal}
 use Rattle.law_walk.specs.Common.{is_client}
+use Rattle.terminal_group.specs.Item.{bare_kind}
+use Rattle.terminal_group.specs.RefusalCodes.{IsReason, code_at}
 use Rattle.terminal_group.specs.ItemPlaces.{is_frame, is_command, place_of}
 
--- the items, without the octets of frames; how many frames and commands have landed, and how many of each were refused;
--- the items that were refused, in their order,
--- and why
+-- the items, with zeros for the octets of frames; how many lines the group has; how many frames and commands have
+-- landed, and how many of each were refused; the items that were refused, in their order, and why
 pub record Landed : Type 0 where
   pub items : List Item
+  pub lines : ℕ
   pub frames : ℕ
   pub commands : ℕ
   pub refused_frames : ℕ
   pub refused_commands : ℕ
   pub refusals : List (ℕ × Refusal)
 
-abbrev pub none_landed : List Item → Landed
-none_landed items = record {
+abbrev pub none_landed : ℕ → List Item → Landed
+none_landed lines items = record {
   items = items;
+  lines = lines;
   frames = 0;
   commands = 0;
   refused_frames = 0;
@@ -62,6 +66,7 @@ refused_of landed false = landed.refused_commands
 -- one more has landed, a frame or a command, refused or not
 pub record HasPassed (was now : Landed) (client refused : Bool) : Type 0 where
   pub items : now.items ≡ was.items
+  pub lines : now.lines ≡ was.lines
   pub frames : now.frames ≡ was.frames + (if client then 1 else 0)
   pub commands : now.commands ≡ was.commands + (if client then 0 else 1)
   pub refused_frames : now.refused_frames ≡ was.refused_frames + (if refused && client then 1 else 0)
@@ -85,23 +90,23 @@ AreBefore number refusals = All (λ (refused : ℕ × Refusal). refused.0 < numb
 abbrev pub AreAfter : ℕ → List (ℕ × Refusal) → Type 0
 AreAfter number refusals = All (λ (refused : ℕ × Refusal). number < refused.0) refusals
 
--- they stand in the order of the items, each item once
-unfoldable pub AreInOrder : List (ℕ × Refusal) → Type 0
-AreInOrder [] = Unit {0}
-AreInOrder (refused ∷ refusals) = AreAfter refused.0 refusals × AreInOrder refusals
+-- the item of a number is of a kind
+abbrev pub IsKept : Landed → ℕ → ItemKind → Type 0
+IsKept landed number kind =
+    (item : Item) → slice_get landed.items number ≡ Some item → item.kind ≡ bare_kind kind
 
--- they are of items other than this one
-pub record AreOthers (number : ℕ) (refusals : List (ℕ × Refusal)) : Type 0 where
-  pub order : AreInOrder refusals
-  pub other : All (λ (refused : ℕ × Refusal). refused.0 ≡ number → ⊥) refusals
+-- why the item of a number may be refused
+abbrev pub IsReasonAt : Landed → ℕ → Refusal → Type 0
+IsReasonAt landed number why =
+    (item : Item) → slice_get landed.items number ≡ Some item → IsReason landed.lines item.kind why
 
--- each is of an item that has landed
-abbrev pub AreOfLanded : Landed → Type 0
-AreOfLanded landed = All (λ (refused : ℕ × Refusal). (item : Item) → slice_get landed.items refused.0 ≡ Some item →
-    refused.0 < next_place landed (is_client item.kind)) landed.refusals
+-- no item that hasn't landed is refused
+abbrev pub AreLanded : Landed → List ℕ → Type 0
+AreLanded landed words = (number : ℕ) (item : Item) → slice_get landed.items number ≡ Some item →
+    next_place landed (is_client item.kind) ≤ number → code_at words number ≡ 0
 
--- what is kept of it: the places of the next frame and the next command, and room for a refusal of each item
-pub record IsLanded (landed : Landed) (next_frame next_command space : ℕ) : Type 0 where
+-- what is kept of it: the places of the next frame and the next command, and words with a code of each item
+pub record IsLanded (landed : Landed) (next_frame next_command : ℕ) (words : List ℕ) : Type 0 where
   pub frame : next_frame ≡ next_place landed true
   pub command : next_command ≡ next_place landed false
   pub few : length landed.items ≤ most_items
@@ -109,9 +114,8 @@ pub record IsLanded (landed : Landed) (next_frame next_command space : ℕ) : Ty
   pub commands : IsNonDecreasing (command_dues (dues_of landed.items))
   pub most_frames : landed.frames ≤ length (frame_dues (dues_of landed.items))
   pub most_commands : landed.commands ≤ length (command_dues (dues_of landed.items))
-  pub order : AreInOrder landed.refusals
-  pub of_landed : AreOfLanded landed
+  pub of_landed : AreLanded landed words
   pub refused : length landed.refusals ≡ landed.refused_frames + landed.refused_commands
   pub few_frames : landed.refused_frames ≤ landed.frames
   pub few_commands : landed.refused_commands ≤ landed.commands
-  pub room : length landed.items ≤ space
+  pub room : length landed.items ≤ 32 * length words

@@ -1,5 +1,5 @@
 pub mod Item
-pub mod KeptItem
+pub mod RefusalCodes
 pub mod BareList
 pub mod ItemPlaces
 pub mod GivenItem

@@ -31,7 +31,7 @@ pub record IsUnusedCore (config : Config) (core : Terminal) : Type 0 where
 pub record IsUnused (leg : Leg) (source : Source) : Type 0 where
   pub core : IsUnusedCore leg.config source.core
   pub total : source.total ≡ leg.config.ticks
-  pub landed : source.landed ≡ none_landed (bare_items leg.items)
+  pub landed : source.landed ≡ none_landed leg.config.lines (bare_items leg.items)
   pub inbox : source.inbox ≡ empty_inbox leg.config.lost leg.config.lag
 
 -- ---- why no row is made

@@ -9,7 +9,7 @@ ghost use Rattle.terminal_source.specs.source_core.GivenScenario.{with_cell, wit
 ghost use Rattle.law_walk.specs.Common.{is_client, IsPlaced, refused_by};
 ghost use Rattle.terminal_group.specs.Item.{kind_of};
 ghost use Rattle.terminal_group.specs.GivenItem.{met_by, with_kind};
-ghost use Rattle.terminal_group.specs.Landed.{next_number, HasPassed};
+ghost use Rattle.terminal_group.specs.Landed.{next_number, HasPassed, IsKept};
 ghost use Rattle.terminal_group.specs.ReturnInbox.{with_come, cell_for, rest_for};
 ghost use Rattle.terminal_group.specs.Source.{IsUnused, SameRest, SameScript, early_in, missing_in};
 
@@ -47,6 +47,7 @@ pub struct GroupSource {
 }
 
 impl Model for GroupSource {
+    ghost use Rattle.std.specs.Prelude.{◌≡◌};
     ghost use Rattle.terminal_group.specs.Source.{Source};
 
     ghost Value = { Source };
@@ -57,6 +58,8 @@ impl Model for GroupSource {
       landed = s.landing;
       inbox = s.source.inbox;
     } };
+
+    ghost invariant = { λ s. s.landing.lines ≡ s.source.core.lines };
 }
 
 impl GroupSource {
@@ -126,7 +129,8 @@ impl GroupSource {
     /// Lands an item, which is the next of its kind and has this number. Answers why it is refused, where it
     /// is; then the terminal is as it was.
     pub fn land(&mut self, number: u32, item: ItemRef) -> Option<Refusal>
-        requires { next_number self.old.landed (is_client (kind_of item)) ≡ Some number }
+        requires next { next_number self.old.landed (is_client (kind_of item)) ≡ Some number }
+        requires item { IsKept self.old.landed number (kind_of item) }
         ensures met { result ≡ met_by self.old.core (kind_of item.entry) }
         ensures unchanged { IsSome result → self.new.core ≡ self.old.core }
         ensures made { (scenario : Scenario) (cells : List (Option Told)) →

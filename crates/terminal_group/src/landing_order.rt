@@ -67,7 +67,7 @@ fn is_due(items: &BareList, i: u32, ticks: u32) -> bool
     ensures { result ≡ due_by ticks (slice_get items.now i) }
 {
     if i < items.len() {
-        items.due(i) <= ticks
+        items.head(i).due <= ticks
     } else {
         false
     }

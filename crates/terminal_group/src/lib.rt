@@ -5,7 +5,6 @@
 //! when an engine ticks, is not said here.
 #![tactic(auto)]
 
-mod bare_item;
 mod bare_list;
 mod counted_source;
 mod group_laws;
@@ -14,8 +13,9 @@ mod item_ref;
 mod landed_counts;
 mod landed_items;
 mod landing_order;
+mod refusal_codes;
+mod refused_items;
 mod return_inbox;
-mod stream_dues;
 
 pub use counted_source::CountedSource;
 pub use group_laws::source_law;
@@ -23,4 +23,5 @@ pub use group_source::{EarlyCause, GroupSource};
 pub use item_ref::{ItemRef, lent_item};
 pub use landed_counts::LandedCounts;
 pub use landed_items::Landing;
+pub use refused_items::Refusals;
 pub use return_inbox::Inbox;

@@ -11,10 +11,10 @@ use crate::group_answers::{SubmitFault, TickAnswer, refused, stopped};
 use crate::item_journal::Journal;
 use crate::open_group::{Opened, open};
 use crate::tick_rings::{first_full, push_frame, take_cells};
-use law_model::{Refusals, Script, Totals};
+use law_model::{Script, Totals};
 use member_cells::{BackCell, Container, HeldContainer};
 use std::alloc::{AllocError, Global};
-use terminal_group::{GroupSource, ItemRef};
+use terminal_group::{GroupSource, ItemRef, Refusals};
 use thread_rings::{RingIn, RingOut};
 
 /// A group. It takes the client's frames and the operator's commands in the order of its script, each kind by
@@ -43,7 +43,7 @@ impl GroupState {
     ghost use Rattle.thread_rings.specs.EndsOfRing.{in_passed};
     ghost use Rattle.terminal_source.specs.source_core.GivenScenario.{IsFresh};
     ghost use Rattle.thread_group.specs.Journal.{fits};
-    ghost use Rattle.terminal_group.specs.Landed.{due_at};
+    ghost use Rattle.terminal_group.specs.Landed.{due_at, IsKept};
     ghost use Rattle.thread_group.specs.GroupRings.{AreUnused, AreFree, IsFirstFull};
     ghost use Rattle.thread_group.specs.Group.{parts_of, side_of, lines_of, lag_of, size_of, statuses_of};
     ghost use Rattle.thread_group.specs.Group.{IsOf, ticks_of};
@@ -114,7 +114,9 @@ impl GroupState {
     /// Lands an item, of this number in the script. Of each kind, the client's frames and the operator's
     /// commands, the next one lands, once it is due. One that the source refuses has landed, and its refusal
     /// is kept; the journal needs room only for one that the source takes. Each other fault changes nothing.
+    /// The item is the script's: a frame of the length that it has there, or the same command.
     pub fn submit(&mut self, number: u32, item: ItemRef) -> Result<(), SubmitFault>
+        requires { IsKept (side_of self.old).landed number (kind_of item) }
         ensures { Submits self.old self.new number (kind_of item.entry) (refusal_in result) }
     {
         let next = self.source.landing().next(item.is_frame());
@@ -196,6 +198,7 @@ impl GroupState {
     /// Lands an item that is the next of its kind and is due. The journal has room for it, where the source takes it.
     fn land(&mut self, number: u32, item: ItemRef) -> Result<(), SubmitFault>
         requires next { next_of self.old (kind_of item) ≡ Some number }
+        requires item { IsKept (side_of self.old).landed number (kind_of item) }
         requires due { due_at (items_of self.old) number ≤ ticks_of self.old }
         requires room { refusal_of self.old (kind_of item) ≡ None →
             fits (parts_of self.old).journal (kind_of item) ≡ true }

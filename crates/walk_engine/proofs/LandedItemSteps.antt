@@ -1,7 +1,7 @@
 -- The next item lands or stalls, and what that leaves of one direction, of a walk and of the totals.
 use Rattle.std.proofs.Common.{◌≡◌, ℕ, ◌+◌, nat_lt, slice_get, Option, Some, None, option_map, inl, inr, refl, sym, ◌∙◌}
 use Rattle.std.proofs.Common.{ap, ◌-◌, ◌<◌, ◌≤◌, ◌&&◌, not, min, Bool, true, false, List, [], ◌∷◌, length, map, subst}
-use Rattle.std.proofs.Common.{arith, is_some, ltb-false, lt-ltb, le-ltb}
+use Rattle.std.proofs.Common.{IfSome, arith, is_some, ltb-false, lt-ltb, le-ltb}
 use Rattle.std.proofs.lemmas.Bool.{cases_Bool}
 use Rattle.law_model.specs.Common.{Leg, Counts, Step, land_due, step, BackCell, used_in, Scenario, DueCommand}
 use Rattle.law_model.specs.Common.{DueFrame, order_of, Source, refusal, Stream, refusal_while, frame_refusal, Course}
@@ -44,11 +44,14 @@ use Rattle.terminal_group.specs.SourceByCounts.{Counted, SameNetwork, and_one, w
 use Rattle.terminal_group.specs.declared.landed_counts.LandedCounts.{LandedCounts}
 use Rattle.terminal_group.specs.ReturnInbox.{Inbox}
 use Rattle.terminal_group.specs.Landed.{Landed, none_landed, next_number, next_place, there_at, due_at, HasPassed}
+use Rattle.terminal_group.specs.Landed.{IsReasonAt}
+use Rattle.terminal_group.specs.RefusalCodes.{IsReason}
+use Rattle.terminal_group.proofs.RefusalCodeLaws.{kind-reason, reason-at}
 use Rattle.terminal_group.specs.GivenItem.{met_by, with_kind}
 use Rattle.terminal_group.proofs.ItemPlaceAndHeldItemLaws.{bare-dues}
 use Rattle.terminal_group.proofs.RefusalOrderAndNextItemLaws.{all-dues, client-frame, operator-command, placed-same}
 use Rattle.terminal_group.proofs.LandingLegItemLaws.{place_by, numbered, next_by, next-counts, next-place, bare-size}
-use Rattle.terminal_group.proofs.LandingLegItemLaws.{bare-due, next-there, offer-here, order-here, Leaves, leaves}
+use Rattle.terminal_group.proofs.LandingLegItemLaws.{bare-due, kept-item, next-there, offer-here, order-here, Leaves, leaves}
 use Rattle.walk_engine.specs.walk_core.WayParts.{WayStands}
 
 -- ---- An item lands.
@@ -140,7 +143,7 @@ and_landed false s = record s { commands = s.commands + 1 }
 
 -- so much has landed, of whatever items
 abbrev landed_as : Counts → Landed
-landed_as s = record (none_landed []) { frames = s.frames; commands = s.commands }
+landed_as s = record (none_landed 0 []) { frames = s.frames; commands = s.commands }
 
 -- what one more of a kind does to the totals
 abbrev pub tell_by : Bool → Option Refusal → Totals → Totals
@@ -513,6 +516,22 @@ module _ (leg : Leg) (backs : ℕ) (parts : Parts) (is : WayStands leg backs par
         ∙ ap (held parts.source.core.ticks parts.source.landed.frames parts.source.landed.commands 0)
         (ap dues_of known.items ∙ bare-dues leg.items)
 
+    -- ---- the item that is handed in is refused for one of its reasons
+    pub land-reason : (number : ℕ) (kind : ItemKind) (why : Option Refusal) →
+        IsDue leg (counts_of parts backs) kind →
+        why ≡ refusal_in_event leg (counts_of parts backs) (landing_of (is_client kind)) →
+        ((item : Item) → slice_get leg.items number ≡ Some item → kind ≡ item.kind) →
+        IfSome why (IsReasonAt landing number)
+    land-reason number kind why is_due refuses handed =
+        let place : ℕ = next_in leg (counts_of parts backs) (is_client kind) in
+        let at : Numbered = record { number = place; item = record { due = is_due.due; kind = kind } } in
+        let told : why ≡ refusal_at leg at = refuses ∙ (next-by leg backs parts is (is_client kind)).why
+        ∙ ap (refusal_of_item leg place) is_due.next in
+        let lines : length leg.config.windows ≡ landing.lines = is.sound.network.windows_each ∙ sym known.lines in
+        reason-at landing number kind why (λ reason e. subst (λ n. IsReason n kind reason) lines
+        (kind-reason _ _ _ _ kind reason (sym told ∙ e)))
+        (kept-item leg.items landing known.items number kind handed)
+
     -- ---- what is known of the items, once one has landed
     pub land-known : (now : Landed) (number : ℕ) (kind : ItemKind) (why : Option Refusal) →
         IsDue leg (counts_of parts backs) kind → next_number landing (is_client kind) ≡ Some number →
@@ -540,6 +559,7 @@ module _ (leg : Leg) (backs : ℕ) (parts : Parts) (is : WayStands leg backs par
         known.commands in
         subst (λ (s : Counts). HasLanded leg s now) (moves kind is_due).0 (record {
           items = passed.items ∙ known.items;
+          lines = passed.lines ∙ known.lines;
           frames = ap (λ (s : Counts). s.frames) (sym counts ∙ counted);
           commands = ap (λ (s : Counts). s.commands) (sym counts ∙ counted);
           refusals = placed-same place (refused_by place why) landing.refusals now.refusals (refusals_of leg next) own

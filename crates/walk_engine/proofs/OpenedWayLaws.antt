@@ -377,10 +377,11 @@ pub new-live-counts : (leg : Leg) (parts : Parts) → counts_of parts 0 ≡ begi
 new-live-counts leg parts begins empty = ap (λ (i : Inbox). counts_of parts i.come) empty ∙ begins
 
 -- nothing of the items has landed
-pub none-known : (leg : Leg) (landing : Landed) → landing ≡ none_landed (bare_items leg.items) →
+pub none-known : (leg : Leg) (landing : Landed) → landing ≡ none_landed leg.config.lines (bare_items leg.items) →
     HasLanded leg (begin (walk_plan leg)) landing
 none-known leg landing none = record {
   items = ap (λ (l : Landed). l.items) none;
+  lines = ap (λ (l : Landed). l.lines) none;
   frames = ap (λ (l : Landed). l.frames) none;
   commands = ap (λ (l : Landed). l.commands) none;
   refusals = ap (λ (l : Landed). l.refusals) none

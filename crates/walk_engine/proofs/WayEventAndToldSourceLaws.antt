@@ -97,6 +97,7 @@ pub landing-stays : (leg : Leg) (s next : Counts) (landing : Landed) → next.fr
     next.commands ≡ s.commands → HasLanded leg s landing → HasLanded leg next landing
 landing-stays leg s next landing frames commands has = record {
   items = has.items;
+  lines = has.lines;
   frames = has.frames ∙ sym frames;
   commands = has.commands ∙ sym commands;
   refusals = has.refusals ∙ ap (λ n. refusals_of leg (record s { frames = n })) (sym frames)

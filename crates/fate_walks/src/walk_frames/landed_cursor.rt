@@ -6,8 +6,9 @@ ghost use Rattle.law_model.specs.declared.item_refusals.Refusal.{Refusal as Refu
 ghost use Rattle.law_walk.specs.Common.{IsWalked, refused_by};
 ghost use Rattle.fate_walks.specs.walk_frames.ItemCursor.{IsAt, IsNext, IsPast, IsSkipped};
 
-use law_model::{ItemSort, Refusal, Refusals};
+use law_model::{ItemSort, Refusal};
 use std::marker::Model;
+use terminal_group::Refusals;
 use walk_engine::walk_core::Walk;
 
 /// A client item that has landed.

@@ -142,6 +142,7 @@ pub record HasCounted (leg : Leg) (s : Counts) (landed : LandedCounts) : Type 0 
 -- which items there are, which have landed, and which of them were refused
 pub record HasLanded (leg : Leg) (s : Counts) (landing : Landed) : Type 0 where
   pub items : landing.items ≡ bare_items leg.items
+  pub lines : landing.lines ≡ leg.config.lines
   pub frames : landing.frames ≡ s.frames
   pub commands : landing.commands ≡ s.commands
   pub refusals : landing.refusals ≡ refusals_of leg s

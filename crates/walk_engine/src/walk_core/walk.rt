@@ -18,10 +18,10 @@ ghost use Rattle.walk_engine.specs.walk_core.WayParts.{note_of, windows_in, Agre
 use crate::walk_core::live_walk::LiveWalk;
 use crate::walk_core::one_way::WayCore;
 use crate::walk_core::step_answers::{Moved, StepNote};
-use law_model::{Event, FrameOut, FrameRoom, Refusal, Refusals, Script, StallCause, Totals};
+use law_model::{Event, FrameOut, FrameRoom, Refusal, Script, StallCause, Totals};
 use std::alloc::{AllocError, Global};
 use std::marker::Model;
-use terminal_group::{Landing, lent_item};
+use terminal_group::{Landing, Refusals, lent_item};
 use terminal_source::lcas_source::SourceTable;
 
 /// A walk of a script.
@@ -190,7 +190,7 @@ impl Walk {
     /// A walk of a script before any event.
     fn begun(script: Script, landing: Landing, live: LiveWalk, room: FrameRoom) -> Walk
         requires script { IsValid script }
-        requires landing { landing ≡ none_landed (bare_items script.items) }
+        requires landing { landing ≡ none_landed script.config.lines (bare_items script.items) }
         requires stands { LiveStands (leg_of script) live }
         requires known { (t : ℕ) → AgreesAt (leg_of script) t (windows_in live.way.lines) }
         requires counts { walking_counts live ≡ begin (walk_plan (leg_of script)) }

@@ -6,7 +6,7 @@ use Rattle.terminal_group.specs.Item.{kind_of}
 use Rattle.terminal_group.specs.Landed.{HasPassed, next_number}
 use Rattle.law_pair.specs.Common.{way_of}
 use Rattle.walk_engine.specs.Common.{HasLanded, Makes, Parts, answer_by, counts_after, counts_of, landing_of}
-use Rattle.walk_engine.proofs.LandedItemSteps.{number-in, land-kind, land-due, due-in, land-known}
+use Rattle.walk_engine.proofs.LandedItemSteps.{number-in, land-kind, land-due, due-in, land-known, land-reason}
 use Rattle.pair_engine.specs.Ways.{way_counts}
 use Rattle.pair_engine.proofs.FirstDueItemLaws.{goes-none, goes-early, goes-landed}
 use Rattle.pair_engine.proofs.pair_way.PairWay.land.Goals as goal
@@ -28,6 +28,23 @@ lend-lent-requires c =
     let (other, stands, known) = c.requires in
     (number-in (way_of own.script other) (packets_in own.core.sink.taken) own.core stands own.landing known
     c.in-Some.next.client c.in-Some.next.number c.in-Some.ensures.number).1
+
+pub land-requires-clause-reason : goal.land-requires-clause-reason
+land-requires-clause-reason c =
+    let own = c.args.self.now in
+    let (other, stands, known) = c.requires in
+    let leg = way_of own.script other in
+    let backs = packets_in own.core.sink.taken in
+    let next = c.in-Some.next in
+    let low = c.if-ticks-next.false in
+    let at = c.ticks.ensures in
+    let dues = c.in-Some.ensures.due in
+    let lends : (item : Item) → slice_get own.script.items next.number ≡ Some item →
+    kind_of c.lent_item.result ≡ item.kind = λ item at. c.lent_item.ensures ∙ c.lend-lent.ensures item at in
+    let due = due-in leg backs own.core stands own.landing known next.client next.number
+    (kind_of c.lent_item.result) c.in-Some.ensures.number lends (omega (arith, low, at, dues)) in
+    land-reason leg backs own.core stands own.landing known next.number (kind_of c.lent_item.result)
+    c.land-why.result due (c.land-why.ensures.refusal leg backs stands due) lends
 
 pub returns-clause-goes : goal.returns-clause-goes
 returns-clause-goes c other stands known =

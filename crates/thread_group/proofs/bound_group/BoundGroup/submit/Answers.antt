@@ -1,6 +1,12 @@
 -- An item that lands leaves the group bound, and the journal has room for it.
 use Rattle.thread_group.proofs.GroupBoundToLegLaws.{bound-submits, not-full}
+use Rattle.terminal_group.proofs.LandingLegItemLaws.{kept-item}
 use Rattle.thread_group.proofs.bound_group.BoundGroup.submit.Goals as goal
+
+pub submit-requires : goal.submit-requires
+submit-requires g c =
+    let state = c.args.self.now.state in
+    kept-item _ state.source.landed c.args.self.now.bound.of_script.items c.args.number _ c.requires
 
 pub invariant_of-self : goal.invariant_of-self
 invariant_of-self g c = record {

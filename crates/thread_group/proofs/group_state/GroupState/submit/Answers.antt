@@ -79,6 +79,9 @@ land-requires-clause-next c =
     ∙ ap (next_number g.source.landed) c.is_frame.ensures)
     ∙ is-some c.next-next.result c.args.number (not-false _ (sym c.if-ne.false ∙ c.ne.ensures))
 
+pub land-requires-clause-item : goal.land-requires-clause-item
+land-requires-clause-item c = c.requires
+
 pub land-requires-clause-due : goal.land-requires-clause-due
 land-requires-clause-due c =
     let low = c.if-now-due.false in

@@ -10,15 +10,15 @@ use Rattle.walk_engine.specs.Common.{HasLanded, IsDue, LiveMakes, Walked, answer
 use Rattle.walk_engine.specs.Common.{AgreesAt, walking_counts, moved_of}
 use Rattle.walk_engine.specs.declared.walk_core.step_answers.Moved.TheVariants.{Stalled}
 use Rattle.walk_engine.proofs.LandedItemSteps.{land-none, land-early, land-stays-landed as land-stays, land-kind, due-in}
-use Rattle.walk_engine.proofs.LandedItemSteps.{land-known}
+use Rattle.walk_engine.proofs.LandedItemSteps.{land-known, land-reason}
 use Rattle.walk_engine.proofs.walk_core.walk.Walk.land.Goals as goal
 use Rattle.walk_engine.proofs.walk_core.walk.Walk.land.Goals.{After-say-why}
 
 pub due-due-requires : goal.due-due-requires
 due-due-requires c = sym c.next.ensures ∙ c.in-Some.is
 
-pub land-requires : goal.land-requires
-land-requires c = sym c.next.ensures ∙ c.in-Some.is
+pub land-requires-clause-next : goal.land-requires-clause-next
+land-requires-clause-next c = sym c.next.ensures ∙ c.in-Some.is
 
 pub returns-in_default : goal.returns-in_default
 returns-in_default c =
@@ -86,6 +86,16 @@ said c =
       makes = subst (λ client. LiveMakes leg (landing_of client) f.live c.say-why.new.self
           (answer_by None c.say-why.result)) kind (c.say-why.ensures.makes leg is.stands due);
     }
+
+pub land-requires-clause-reason : goal.land-requires-clause-reason
+land-requires-clause-reason c =
+    let f = c.self.inside in
+    let leg = leg_of f.script in
+    let is = c.self.invariant.1 in
+    let here = said (goal.at.land-requires-clause-reason c).After-say-why in
+    land-reason leg f.live.way.source.inbox.come f.live.way is.stands.stands f.landing is.landed c.in-Some.number
+    (kind_of c.lent_item.result) c.say-why.result here.due (c.say-why.ensures.refusal leg is.stands here.due)
+    (λ item at. c.lent_item.ensures ∙ c.lend-lent.ensures item at)
 
 pub invariant_of-self : goal.invariant_of-self
 invariant_of-self c =
