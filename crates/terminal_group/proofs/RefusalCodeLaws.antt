@@ -1,9 +1,11 @@
 -- Codes of two bits in words, and the refusals that they tell.
-use Rattle.std.proofs.Common.{◌≡◌, ℕ, zero, suc, ◌+◌, ◌*◌, ◌^◌, ◌/◌, ◌%◌, ◌<◌, ◌≤◌, List, [], ◌∷◌, ◌++◌, length, take, drop}
+use Rattle.std.proofs.Common.{◌≡◌, ℕ, zero, suc, ◌+◌, ◌*◌, ◌^◌, ◌/◌, ◌%◌, ◌<◌, ◌≤◌, List, [], ◌∷◌, ◌++◌, length, take, drop, get_or, set}
 use Rattle.std.proofs.Common.{slice_get, All, Option, Some, None, option_map, IfSome, Bool, true, false, not, ◌||◌, nat_lt}
-use Rattle.std.proofs.Common.{nat_le, if◌then◌else◌, refl, sym, ◌∙◌, ap, arith, append_assoc, append-nil, length-replicate}
+use Rattle.std.proofs.Common.{nat_le, if◌then◌else◌, refl, sym, ◌∙◌, ap, arith, append_assoc, append-nil, replicate}
+use Rattle.std.proofs.Common.{inl, inr}
+use Rattle.std.proofs.lemmas.Bool.{cases_eq}
 use Rattle.std.proofs.lemmas.Nat.{pow-add, shr-shr}
-use Rattle.std.proofs.lemmas.List.{drop_all}
+use Rattle.std.proofs.lemmas.List.{drop_all, get_or-set_same, get_or-set_other, length-replicate}
 use Rattle.std.proofs.lemmas.List.Elements.{All-cons, All-append}
 use Rattle.law_model.proofs.ListLaws.{drop-next, none-beyond, take-few}
 use Rattle.law_model.specs.declared.script_types.Item.{Item}
@@ -22,7 +24,7 @@ use Rattle.terminal_source.specs.source_core.Terminal.{Terminal}
 use Rattle.terminal_group.specs.Item.{bare_kind}
 use Rattle.terminal_group.specs.GivenItem.{met_by}
 use Rattle.terminal_group.specs.Landed.{Landed, IsKept, IsReasonAt}
-use Rattle.terminal_group.specs.RefusalCodes.{code_in, IsReason, reasons, reason_by, refusals_from}
+use Rattle.terminal_group.specs.RefusalCodes.{code_in, code_at, IsReason, reasons, reason_by, refusals_from}
 
 -- ---- a place of a word
 pub none-in : (place : ℕ) → code_in 0 place ≡ 0
@@ -77,6 +79,53 @@ put-fits (suc places) (suc place) word code inside low none few =
     let four = four-more places in
     let rest = put-fits places place (word / 4) code (omega arith) (omega (arith, four)) none few in
     omega (arith, four, rest, code-more place code)
+
+-- ---- words
+-- a word that is there, whatever is read where none is
+pub same-word : (words : List ℕ) (place d : ℕ) → place < length words → get_or words place d ≡ get_or words place 0
+same-word [] place d inside = absurd (omega arith)
+same-word (word ∷ words) zero d inside = refl
+same-word (word ∷ words) (suc place) d inside = same-word words place d (omega (arith, inside))
+
+get-zero : (n k : ℕ) → ◌≡◌ {A = ℕ} (get_or (replicate n 0) k 0) 0
+get-zero zero k = refl
+get-zero (suc n) zero = refl
+get-zero (suc n) (suc k) = get-zero n k
+
+pub clear-words : (n number : ℕ) → code_at (replicate n 0) number ≡ 0
+clear-words n number = ap (λ w. code_in w (number % 32)) (get-zero n (number / 32)) ∙ none-in (number % 32)
+
+pub clear-word : (words : List ℕ) (place number : ℕ) → get_or words place 0 ≡ 0 → number / 32 ≡ place →
+    code_at words number ≡ 0
+clear-word words place number clear at =
+    ap (λ w. code_in w (number % 32)) (ap (λ p. get_or words p 0) at ∙ clear) ∙ none-in (number % 32)
+
+-- a code more in a word
+abbrev with_added : List ℕ → ℕ → ℕ → List ℕ
+with_added words number code =
+    set words (number / 32) (get_or words (number / 32) 0 + code * 2 ^ (2 * (number % 32)))
+
+pub word-here : (words : List ℕ) (number code : ℕ) → number < 32 * length words → code_at words number ≡ 0 → code < 4 →
+    code_at (with_added words number code) number ≡ code
+word-here words number code inside none few =
+    ap (λ w. code_in w (number % 32)) (get_or-set_same words (number / 32)
+    (get_or words (number / 32) 0 + code * 2 ^ (2 * (number % 32))) 0 (omega (arith, inside)))
+    ∙ put-here (number % 32) (get_or words (number / 32) 0) code none few
+
+pub word-other : (words : List ℕ) (number code other : ℕ) → number < 32 * length words → code_at words number ≡ 0 →
+    code < 4 → (other ≡ number → ⊥) → code_at (with_added words number code) other ≡ code_at words other
+word-other words number code other inside none few apart =
+    elim (cases_eq (other / 32) (number / 32)) [
+      | inl same ↦
+          ap (λ p. code_in (get_or (with_added words number code) p 0) (other % 32)) same
+          ∙ ap (λ w. code_in w (other % 32)) (get_or-set_same words (number / 32)
+          (get_or words (number / 32) 0 + code * 2 ^ (2 * (number % 32))) 0 (omega (arith, inside)))
+          ∙ put-other (number % 32) (other % 32) (get_or words (number / 32) 0) code
+          (λ e. apart (omega (arith, same, e))) none few
+          ∙ ap (λ p. code_in (get_or words p 0) (other % 32)) (sym same)
+      | inr differs ↦ ap (λ w. code_in w (other % 32)) (get_or-set_other words (number / 32) (other / 32)
+          (get_or words (number / 32) 0 + code * 2 ^ (2 * (number % 32))) 0 differs)
+    ]
 
 -- ---- the refusals among items, of a group of so many lines
 module _ (lines : ℕ) where
@@ -159,9 +208,24 @@ module _ (lines : ℕ) where
       }
 
   -- ---- those from a number on
+  pub codes-next : (code : ℕ → ℕ) (items : List Item) (i : ℕ) (item : Item) → slice_get items i ≡ Some item →
+      refusals_from lines code i (drop i items)
+      ≡ refused_by i (reason_by lines item.kind (code i)) ++ refusals_from lines code (i + 1) (drop (i + 1) items)
+  unfolding refusals_from
+  codes-next code items i item there =
+      ap (refusals_from lines code i) (drop-next items i item there)
+      ∙ ap (λ n. refused_by i (reason_by lines item.kind (code i)) ++ refusals_from lines code n (drop n items))
+      (let e : suc i ≡ i + 1 = omega arith in e)
+
+  pub codes-past : (code : ℕ → ℕ) (items : List Item) (i : ℕ) → length items ≤ i →
+      refusals_from lines code i (drop i items) ≡ []
+  unfolding refusals_from
+  codes-past code items i few = ap (refusals_from lines code i) (drop_all i items few)
+
   -- where the items up to another have no code, they are those from that on
   pub codes-skipped : (code : ℕ → ℕ) (items : List Item) (gap i : ℕ) → ((n : ℕ) → i ≤ n → n < i + gap → code n ≡ 0) →
       refusals_from lines code i (drop i items) ≡ refusals_from lines code (i + gap) (drop (i + gap) items)
+  unfolding refusals_from
   codes-skipped code items zero i none =
       ap (λ n. refusals_from lines code n (drop n items)) (let e : i ≡ i + 0 = omega arith in e)
   codes-skipped code items (suc gap) i none =
@@ -171,7 +235,6 @@ module _ (lines : ℕ) where
     where
       one : (there : Option Item) → slice_get items i ≡ there →
           refusals_from lines code i (drop i items) ≡ refusals_from lines code (suc i) (drop (suc i) items)
-      unfolding refusals_from
       one (Some item) there =
           ap (refusals_from lines code i) (drop-next items i item there)
           ∙ ap (λ n. refused_by i (reason_by lines item.kind n) ++ refusals_from lines code (suc i) (drop (suc i) items))

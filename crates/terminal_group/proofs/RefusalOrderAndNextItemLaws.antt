@@ -106,16 +106,16 @@ placed-length number put was now placed =
       size,
     )
 
-pub frame-landed : (landed : Landed) (frame command next refused : ℕ) (words other : List ℕ)
-    (refusals : List (ℕ × Refusal)) → IsLanded landed frame command words → frame < length landed.items →
-    next ≡ (frame + 1) + place_of is_frame 0 (drop (frame + 1) landed.items) →
-    ((n : ℕ) → (n ≡ frame → ⊥) → code_at other n ≡ code_at words n) → length other ≡ length words →
+pub frame-landed : (landed : Landed) (frame command number next refused : ℕ) (words other : List ℕ)
+    (refusals : List (ℕ × Refusal)) → IsLanded landed frame command words →
+    number ≡ next_place landed true → number < length landed.items →
+    next ≡ (number + 1) + place_of is_frame 0 (drop (number + 1) landed.items) →
+    ((n : ℕ) → (n ≡ number → ⊥) → code_at other n ≡ code_at words n) → length other ≡ length words →
     length refusals + landed.refused_frames ≡ length landed.refusals + refused → refused ≤ landed.refused_frames + 1 →
     IsLanded (record landed { frames = landed.frames + 1; refused_frames = refused; refusals = refusals }) next command
     other
-frame-landed landed frame command next refused words other refusals is there at same room more few =
-    let place = is.frame in
-    let next = place-next is_frame landed.items landed.frames frame is.frame there in
+frame-landed landed frame command number next refused words other refusals is place there at same room more few =
+    let next = place-next is_frame landed.items landed.frames number place there in
     let inside = few-frames landed.items landed.frames (omega (arith, place, there)) in
     record {
       frame = at ∙ next;
@@ -136,29 +136,28 @@ frame-landed landed frame command next refused words other refusals is there at 
   where
     left : (client : Bool) (n : ℕ) (item : Item) → slice_get landed.items n ≡ Some item →
         is_client item.kind ≡ client → next_place (record landed { frames = landed.frames + 1 }) client ≤ n →
-        (n ≡ frame → ⊥) × (next_place landed client ≤ n)
+        (n ≡ number → ⊥) × (next_place landed client ≤ n)
     left true n item found kind late =
-        let place = is.frame in
-        let next = place-next is_frame landed.items landed.frames frame is.frame there in
+        let next = place-next is_frame landed.items landed.frames number place there in
         (λ e. omega (arith, next, late, e), omega (arith, place, next, late))
     left false n item found kind late = (
       (λ e.
-          let own = next-kind landed true item (ap (slice_get landed.items) (sym is.frame ∙ sym e) ∙ found) in
+          let own = next-kind landed true item (ap (slice_get landed.items) (sym place ∙ sym e) ∙ found) in
           absurd (let no : true ≡ false = sym own ∙ kind in cc)),
       late,
     )
 
-pub command-landed : (landed : Landed) (frame command next refused : ℕ) (words other : List ℕ)
-    (refusals : List (ℕ × Refusal)) → IsLanded landed frame command words → command < length landed.items →
-    next ≡ (command + 1) + place_of is_command 0 (drop (command + 1) landed.items) →
-    ((n : ℕ) → (n ≡ command → ⊥) → code_at other n ≡ code_at words n) → length other ≡ length words →
+pub command-landed : (landed : Landed) (frame command number next refused : ℕ) (words other : List ℕ)
+    (refusals : List (ℕ × Refusal)) → IsLanded landed frame command words →
+    number ≡ next_place landed false → number < length landed.items →
+    next ≡ (number + 1) + place_of is_command 0 (drop (number + 1) landed.items) →
+    ((n : ℕ) → (n ≡ number → ⊥) → code_at other n ≡ code_at words n) → length other ≡ length words →
     length refusals + landed.refused_commands ≡ length landed.refusals + refused →
     refused ≤ landed.refused_commands + 1 →
     IsLanded (record landed { commands = landed.commands + 1; refused_commands = refused; refusals = refusals }) frame
     next other
-command-landed landed frame command next refused words other refusals is there at same room more few =
-    let place = is.command in
-    let next = place-next is_command landed.items landed.commands command is.command there in
+command-landed landed frame command number next refused words other refusals is place there at same room more few =
+    let next = place-next is_command landed.items landed.commands number place there in
     let inside = few-commands landed.items landed.commands (omega (arith, place, there)) in
     record {
       frame = is.frame;
@@ -179,16 +178,15 @@ command-landed landed frame command next refused words other refusals is there a
   where
     left : (client : Bool) (n : ℕ) (item : Item) → slice_get landed.items n ≡ Some item →
         is_client item.kind ≡ client → next_place (record landed { commands = landed.commands + 1 }) client ≤ n →
-        (n ≡ command → ⊥) × (next_place landed client ≤ n)
+        (n ≡ number → ⊥) × (next_place landed client ≤ n)
     left true n item found kind late = (
       (λ e.
-          let own = next-kind landed false item (ap (slice_get landed.items) (sym is.command ∙ sym e) ∙ found) in
+          let own = next-kind landed false item (ap (slice_get landed.items) (sym place ∙ sym e) ∙ found) in
           absurd (let no : false ≡ true = sym own ∙ kind in cc)),
       late,
     )
     left false n item found kind late =
-        let place = is.command in
-        let next = place-next is_command landed.items landed.commands command is.command there in
+        let next = place-next is_command landed.items landed.commands number place there in
         (λ e. omega (arith, next, late, e), omega (arith, place, next, late))
 
 -- nothing has landed

@@ -1,5 +1,5 @@
 -- What is kept of refused items: two bits an item, which tell with the item why it was refused.
-use Rattle.std.specs.Prelude.{◌≡◌, ℕ, zero, suc, ◌/◌, ◌%◌, List, [], ◌∷◌, ◌++◌, length, get_or, slice_get}
+use Rattle.std.specs.Prelude.{◌≡◌, ℕ, zero, suc, ◌/◌, ◌%◌, List, [], ◌∷◌, ◌++◌, length, get_or, slice_get, drop}
 use Rattle.std.specs.Prelude.{Option, Some, None}
 use Rattle.law_model.specs.Common.{most_waiting, most_pending}
 use Rattle.law_model.specs.declared.script_types.Item.{Item}
@@ -45,3 +45,10 @@ unfoldable pub refusals_from : ℕ → (ℕ → ℕ) → ℕ → List Item → L
 refusals_from lines code number [] = []
 refusals_from lines code number (item ∷ items) =
     refused_by number (reason_by lines item.kind (code number)) ++ refusals_from lines code (suc number) items
+
+-- by the words of their codes: all, and those from a number on
+abbrev pub refusals_in : ℕ → List ℕ → List Item → List (ℕ × Refusal)
+refusals_in lines words items = refusals_from lines (code_at words) 0 items
+
+abbrev pub refusals_left : ℕ → List ℕ → ℕ → List Item → List (ℕ × Refusal)
+refusals_left lines words number items = refusals_from lines (code_at words) number (drop number items)

@@ -1,6 +1,6 @@
 //! What lands next in a group, and what was refused.
 
-ghost use Rattle.std.specs.Prelude.{◌≡◌, ◌+◌, length, Some, IfOk, IfSome, is_some};
+ghost use Rattle.std.specs.Prelude.{◌≡◌, ◌+◌, if◌then◌else◌, length, Some, IfOk, IfSome, is_some};
 ghost use Rattle.law_model.specs.Common.{IsValid, dues_of, held};
 ghost use Rattle.terminal_group.specs.Item.{bare_items};
 ghost use Rattle.law_walk.specs.Common.{IsPlaced, refused_by};
@@ -35,7 +35,7 @@ pub struct Landing {
 
 impl Model for Landing {
     ghost use Rattle.terminal_group.specs.Landed.{Landed, IsLanded};
-    ghost use Rattle.terminal_group.specs.RefusalCodes.{code_at, refusals_from};
+    ghost use Rattle.terminal_group.specs.RefusalCodes.{refusals_in};
 
     ghost Value = { Landed };
 
@@ -46,7 +46,7 @@ impl Model for Landing {
       commands = l.commands;
       refused_frames = l.refused_frames;
       refused_commands = l.refused_commands;
-      refusals = refusals_from l.lines (code_at l.codes) 0 l.items;
+      refusals = refusals_in l.lines l.codes l.items;
     } };
 
     ghost invariant = { λ l. IsLanded (record {
@@ -56,7 +56,7 @@ impl Model for Landing {
       commands = l.commands;
       refused_frames = l.refused_frames;
       refused_commands = l.refused_commands;
-      refusals = refusals_from l.lines (code_at l.codes) 0 l.items;
+      refusals = refusals_in l.lines l.codes l.items;
     }) l.frame l.command l.codes };
 }
 
@@ -153,7 +153,7 @@ impl Landing {
             self.old.refusals self.new.refusals }
     {
         self.codes.put(number, code_of(why));
-        let refused = if why.is_some() { 1 } else { 0 };
+        let refused = one_if(why.is_some());
         if client {
             self.frame = next_frame(&self.items, number + 1);
             self.frames += 1;
@@ -171,4 +171,11 @@ impl Landing {
     {
         if client { self.frame } else { self.command }
     }
+}
+
+/// One, or none.
+fn one_if(one: bool) -> u32
+    ensures { result ≡ (if one then 1 else 0) }
+{
+    if one { 1 } else { 0 }
 }

@@ -1,9 +1,9 @@
 //! Why items were refused, in two bits an item.
 
-ghost use Rattle.std.specs.Prelude.{◌≡◌, ℕ, ◌<◌, ◌≤◌, ◌*◌, ◌/◌, length, IfOk, IfSome, true};
+ghost use Rattle.std.specs.Prelude.{◌≡◌, ℕ, ◌+◌, ◌<◌, ◌≤◌, ◌*◌, ◌/◌, ◌^◌, length, IfOk, IfSome, true};
 ghost use Rattle.law_model.specs.declared.script_types.ItemKind.{ItemKind};
 ghost use Rattle.terminal_group.specs.Item.{kind_in};
-ghost use Rattle.terminal_group.specs.RefusalCodes.{code_at, reason_by, IsReason};
+ghost use Rattle.terminal_group.specs.RefusalCodes.{code_at, code_in, reason_by, IsReason};
 
 use law_model::{AcceptFault, CommandFault, ItemSort, Refusal};
 use std::alloc::{AllocError, Global};
@@ -63,8 +63,19 @@ impl RefusalCodes {
             code_at self.new other ≡ code_at self.old other }
         ensures room { length self.new ≡ length self.old }
     {
-        self.words[number as usize / 32] += u64::from(code) << (2 * (number % 32));
+        let place = number as usize / 32;
+        self.words[place] = with_code(self.words[place], number % 32, code);
     }
+}
+
+/// A word with the code of a place that had none.
+fn with_code(word: u64, place: u32, code: u8) -> u64
+    requires place { place < 32 }
+    requires code { code < 4 }
+    requires none { code_in word place ≡ 0 }
+    ensures { result ≡ word + code * 2 ^ (2 * place) }
+{
+    word + (u64::from(code) << (2 * place))
 }
 
 /// The code of why an item is refused, where it is.

@@ -1,8 +1,9 @@
 //! The items that were refused, one after another.
 
-ghost use Rattle.std.specs.Prelude.{◌≡◌, ◌<◌, ◌≤◌, ◌*◌, [], ◌∷◌, length, slice_get, Some, IfSome, IfNone};
+ghost use Rattle.std.specs.Prelude.{◌≡◌, ◌+◌, ◌<◌, ◌≤◌, ◌*◌, [], ◌∷◌, length, slice_get, Some, IfSome, IfNone};
+ghost use Rattle.law_model.specs.Common.{most_items};
 ghost use Rattle.law_model.specs.declared.script_types.Item.{Item};
-ghost use Rattle.terminal_group.specs.RefusalCodes.{code_at, reason_by, refusals_from};
+ghost use Rattle.terminal_group.specs.RefusalCodes.{code_at, reason_by, refusals_in, refusals_left};
 
 use crate::bare_list::BareList;
 use crate::refusal_codes::{RefusalCodes, reason};
@@ -21,14 +22,13 @@ pub struct Refusals<'a> {
 }
 
 impl<'a> Model for Refusals<'a> {
-    ghost use Rattle.std.specs.Prelude.{ℕ, ◌≤◌, ◌*◌, List, length, drop};
+    ghost use Rattle.std.specs.Prelude.{ℕ, ◌≤◌, ◌*◌, List, length};
     ghost use Rattle.law_model.specs.declared.item_refusals.Refusal.{Refusal};
-    ghost use Rattle.terminal_group.specs.RefusalCodes.{code_at, refusals_from};
+    ghost use Rattle.terminal_group.specs.RefusalCodes.{refusals_left};
 
     ghost Value = { List (ℕ × Refusal) };
 
-    ghost view = { λ r.
-        refusals_from r.lines (code_at r.codes.now) r.number (drop r.number r.items.now) };
+    ghost view = { λ r. refusals_left r.lines r.codes.now r.number r.items.now };
 
     ghost invariant = { λ r. length r.items.now ≤ 32 * length r.codes.now };
 }
@@ -37,7 +37,7 @@ impl<'a> Refusals<'a> {
     /// Those of items that have these codes, in a group of so many lines.
     pub(crate) fn new(items: &'a BareList, codes: &'a RefusalCodes, lines: u8) -> Refusals<'a>
         requires { length items.now ≤ 32 * length codes.now }
-        ensures { result ≡ refusals_from lines (code_at codes.now) 0 items.now }
+        ensures { result ≡ refusals_in lines codes.now items.now }
     {
         Refusals {
             items,
@@ -53,19 +53,43 @@ impl<'a> Refusals<'a> {
         ensures none { IfNone result (self.old ≡ []) }
         ensures ended { IfNone result (self.new ≡ []) }
     {
-        while self.number < self.items.len() {
-            let number = self.number;
-            if self.codes.is_clear(number) {
-                self.number = (number / 32 + 1) * 32;
-                continue;
+        match first_refusal(self.items, self.codes, self.lines, self.number) {
+            Some((number, why)) => {
+                self.number = number + 1;
+                Some((number, why))
             }
-            self.number = number + 1;
-            if let Some(why) = reason_at(self.items, self.codes, self.lines, number) {
-                return Some((number, why));
+            None => {
+                self.number = self.items.len();
+                None
             }
         }
-        None
     }
+}
+
+/// The first refusal of an item from a number on.
+fn first_refusal(
+    items: &BareList,
+    codes: &RefusalCodes,
+    lines: u8,
+    from: u32,
+) -> Option<(u32, Refusal)>
+    requires { length items.now ≤ 32 * length codes.now }
+    ensures few { IfSome result (λ refused. refused.0 < most_items) }
+    ensures some { IfSome result (λ refused. refusals_left lines codes.now from items.now
+        ≡ refused ∷ refusals_left lines codes.now (refused.0 + 1) items.now) }
+    ensures none { IfNone result (refusals_left lines codes.now from items.now ≡ []) }
+{
+    let mut number = from;
+    while number < items.len() {
+        if codes.is_clear(number) {
+            number = (number / 32 + 1) * 32;
+        } else if let Some(why) = reason_at(items, codes, lines, number) {
+            return Some((number, why));
+        } else {
+            number += 1;
+        }
+    }
+    None
 }
 
 /// Why an item was refused, where it was.

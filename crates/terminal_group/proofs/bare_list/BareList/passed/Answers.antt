@@ -1,13 +1,14 @@
 -- The number behind a stream is behind all its frames.
-use Rattle.std.proofs.Common.{◌+◌, ◌<◌, ◌≤◌, List, length, slice_get, ◌∙◌, ap, subst, arith}
+use Rattle.std.proofs.Common.{◌+◌, ◌<◌, ◌≤◌, List, length, map, slice_get, ◌∙◌, ap, subst, arith}
 use Rattle.law_model.specs.declared.script_types.Item.{Item}
 use Rattle.law_model.specs.session.Streams.{IsPlace}
+use Rattle.terminal_group.specs.Item.{item_in}
 use Rattle.terminal_group.proofs.BareListLaws.{bare_length, streamed_there, frame_there}
 use Rattle.terminal_group.proofs.bare_list.BareList.passed.Goals as goal
 
 pub overflow_add-result : goal.overflow_add-result
 overflow_add-result c =
-    let long = bare_length c.self.inside.singles.items c.self.inside.streams c.self.invariant in
+    let long = bare_length (map item_in c.self.inside.singles.items) c.self.inside.streams c.self.invariant in
     let seen = ap length c.self.view_is in
     let few = c.self.invariant.few in
     omega (arith, long, seen, few, c.requires)

@@ -1,112 +1,151 @@
--- The next item has landed, and its refusal is put in its place.
-use Rattle.std.proofs.Common.{◌≡◌, ℕ, ◌+◌, ◌<◌, Bool, List, [], slice_get, Option, None, Some, sym, ◌∙◌, ap, subst}
-use Rattle.std.proofs.Common.{arith, false, if◌then◌else◌, not, is_some, vec_capacity}
+-- The next item has landed, and its refusal is written.
+use Rattle.std.proofs.Common.{◌≡◌, ℕ, List, slice_get, Option, None, Some, IfSome, refl, sym, ◌∙◌, ap, subst, arith, length}
+use Rattle.std.proofs.Common.{◌+◌, ◌≤◌, ◌<◌, Bool, true, false, is_some, if◌then◌else◌}
 use Rattle.law_model.specs.declared.script_types.Item.{Item}
+use Rattle.law_model.specs.declared.script_types.ItemKind.{ItemKind}
 use Rattle.law_model.specs.declared.item_refusals.Refusal.{Refusal}
+use Rattle.law_model.proofs.ListLaws.{slice_get-inside}
 use Rattle.law_walk.specs.Common.{is_client, IsPlaced, refused_by}
-use Rattle.terminal_group.specs.Landed.{Landed, next_place, landed_of, refused_of, HasPassed, AreOthers}
-use Rattle.terminal_group.proofs.RefusalOrderAndNextItemLaws.{all-dues, one-low, fewer-room, number-there, next-kind}
-use Rattle.terminal_group.proofs.RefusalOrderAndNextItemLaws.{none-put, refusal-landed, wider}
+use Rattle.terminal_group.specs.Landed.{Landed, IsLanded, IsReasonAt, next_number, next_place}
+use Rattle.terminal_group.specs.RefusalCodes.{IsReason, code_at, reason_by, refusals_in}
+use Rattle.terminal_group.proofs.RefusalCodeLaws.{code-placed}
+use Rattle.terminal_group.proofs.RefusalOrderAndNextItemLaws.{all-dues, number-there, next-kind, placed-length}
+use Rattle.terminal_group.proofs.RefusalOrderAndNextItemLaws.{frame-landed, command-landed}
 use Rattle.terminal_group.proofs.landed_items.Landing.land.Goals as goal
+
+-- the next item isn't refused yet
+fresh : (view landed : Landed) (frame command : ℕ) (words : List ℕ) (client : Bool) (number : ℕ) → view ≡ landed →
+    IsLanded view frame command words → next_number landed client ≡ Some number → code_at words number ≡ 0
+fresh view landed frame command words client number same is next =
+    let (at, there) = number-there view client number (ap (λ (l : Landed). next_number l client) same ∙ next) in
+    let (item, here) = slice_get-inside view.items number there in
+    let kind = next-kind view client item (ap (slice_get view.items) (sym at) ∙ here) in
+    is.of_landed number item here (subst (λ b. next_place view b ≤ number) (sym kind) (omega (arith, at)))
+
+reason-of : (landed : Landed) (number : ℕ) (item : Item) (why : Option Refusal) →
+    slice_get landed.items number ≡ Some item → IfSome why (IsReasonAt landed number) →
+    IfSome why (IsReason landed.lines item.kind)
+reason-of landed number item None there is = tt
+reason-of landed number item (Some why) there is = is item there
+
+-- its refusal gets its place
+placed : (view landed : Landed) (frame command : ℕ) (words other : List ℕ) (client : Bool) (number : ℕ)
+    (why : Option Refusal) → view ≡ landed → IsLanded view frame command words →
+    next_number landed client ≡ Some number → IfSome why (IsReasonAt landed number) →
+    ((lines : ℕ) (kind : ItemKind) → IfSome why (IsReason lines kind) →
+    reason_by lines kind (code_at other number) ≡ why) →
+    ((n : ℕ) → (n ≡ number → ⊥) → code_at other n ≡ code_at words n) →
+    IsPlaced number (refused_by number why) (refusals_in view.lines words view.items)
+    (refusals_in view.lines other view.items)
+placed view landed frame command words other client number why same is next reason says others =
+    let (at, there) = number-there view client number (ap (λ (l : Landed). next_number l client) same ∙ next) in
+    let (item, here) = slice_get-inside view.items number there in
+    code-placed view.lines (code_at words) (code_at other) view.items number item why here
+    (fresh view landed frame command words client number same is next)
+    (says view.lines item.kind (reason-of view number item why here
+    (subst (λ (l : Landed). IfSome why (IsReasonAt l number)) (sym same) reason))) others
+
+pub put-requires-clause-none : goal.put-requires-clause-none
+put-requires-clause-none c =
+    fresh _ c.args.self.now _ _ _ c.args.client c.args.number c.self.view_is c.self.invariant c.requires.next
+
+one-low : (one : Bool) → ◌≤◌ (if one then 1 else 0) 1
+one-low true = omega arith
+one-low false = omega arith
+
+refused-length : (number : ℕ) (why : Option Refusal) →
+    length (refused_by number why) ≡ (if is_some why then 1 else 0)
+refused-length number None = refl
+refused-length number (Some why) = refl
+
+-- one refusal more, where it is refused
+counted : (number one refused : ℕ) (why : Option Refusal) (was now : List (ℕ × Refusal)) →
+    IsPlaced number (refused_by number why) was now → one ≡ (if is_some why then 1 else 0) →
+    (length now + refused ≡ length was + (refused + one)) × (refused + one ≤ refused + 1)
+counted number one refused why was now placed is =
+    let long = placed-length number (refused_by number why) was now placed in (
+      omega (arith, long, refused-length number why, is),
+      omega (arith, is, one-low (is_some why)),
+    )
 
 pub overflow_add-self : goal.overflow_add-self
 overflow_add-self c =
-    let few = c.self.invariant.few_frames in
-    omega (arith, all-dues c.self.inside.items, one-low c.args.client, c.one_if.ensures)
+    let most = c.self.invariant.most_frames in
+    let few = c.self.invariant.few in
+    omega (arith, all-dues c.self.inside.items, most, few)
 
-pub refuse-requires : goal.refuse-requires
-refuse-requires c =
-    let (at, there) = number-there c.args.self.now c.args.client c.args.number c.requires in
-    record {
-      room = fewer-room _ _ _ _ _ c.args.client c.self.view_is c.self.invariant c.pass.ensures.fewer;
-      other = subst (λ n. AreOthers n c.self.inside.refusals.items) (sym at)
-          (subst (λ (l : Landed). AreOthers (next_place c.args.self.now c.args.client) l.refusals)
-          (sym c.self.view_is) c.pass.ensures.others);
-    }
+pub overflow_add-self-then-client : goal.overflow_add-self-then-client
+overflow_add-self-then-client c =
+    let most = c.self.invariant.most_frames in
+    let low = c.self.invariant.few_frames in
+    let few = c.self.invariant.few in
+    omega (arith, all-dues c.self.inside.items, most, low, few, c.one_if-refused.ensures, one-low c.is_some.result)
 
--- an item at the place that was the next one has landed, by what is seen of it
-passed : (was now seen : Landed) (frame : Bool) (number : ℕ) → now ≡ seen → seen.items ≡ was.items →
-    number ≡ next_place was frame → next_place was frame < next_place seen frame →
-    (item : Item) → slice_get now.items number ≡ Some item → number < next_place now (is_client item.kind)
-passed was now seen frame number view items at low item there =
-    let kind = next-kind was frame item (ap (slice_get was.items) (sym at)
-    ∙ ap (λ l. slice_get l number) (sym (ap (λ (l : Landed). l.items) view ∙ items)) ∙ there) in
-    let same : next_place now (is_client item.kind) ≡ next_place now frame = ap (next_place now) kind in
-    let more = subst (λ (l : Landed). next_place was frame < next_place l frame) (sym view) low in
-    omega arith
+pub overflow_add-self-else-client : goal.overflow_add-self-else-client
+overflow_add-self-else-client c =
+    let most = c.self.invariant.most_commands in
+    let few = c.self.invariant.few in
+    omega (arith, all-dues c.self.inside.items, most, few)
+
+pub overflow_add-self-else-client-2 : goal.overflow_add-self-else-client-2
+overflow_add-self-else-client-2 c =
+    let most = c.self.invariant.most_commands in
+    let low = c.self.invariant.few_commands in
+    let few = c.self.invariant.few in
+    omega (arith, all-dues c.self.inside.items, most, low, few, c.one_if-refused.ensures, one-low c.is_some.result)
+
+pub returns-then-client-clause-refusals : goal.returns-then-client-clause-refusals
+returns-then-client-clause-refusals c =
+    let f = c.self.inside in
+    subst (λ (l : Landed). IsPlaced c.args.number (refused_by c.args.number c.args.why) l.refusals
+    (refusals_in f.lines c.put.new.self f.items)) c.self.view_is
+    (placed _ c.args.self.now f.frame f.command f.codes c.put.new.self c.args.client c.args.number c.args.why
+    c.self.view_is c.self.invariant c.requires.next c.requires.reason
+    (λ lines kind is. ap (reason_by lines kind) c.put.ensures.put ∙ c.code_of.ensures.says lines kind is)
+    c.put.ensures.others)
+
+pub returns-else-client-clause-refusals : goal.returns-else-client-clause-refusals
+returns-else-client-clause-refusals c =
+    let f = c.self.inside in
+    subst (λ (l : Landed). IsPlaced c.args.number (refused_by c.args.number c.args.why) l.refusals
+    (refusals_in f.lines c.put.new.self f.items)) c.self.view_is
+    (placed _ c.args.self.now f.frame f.command f.codes c.put.new.self c.args.client c.args.number c.args.why
+    c.self.view_is c.self.invariant c.requires.next c.requires.reason
+    (λ lines kind is. ap (reason_by lines kind) c.put.ensures.put ∙ c.code_of.ensures.says lines kind is)
+    c.put.ensures.others)
 
 pub invariant_of-self : goal.invariant_of-self
 invariant_of-self c =
-    let was = c.args.self.now in
     let f = c.self.inside in
-    let (at, there) = number-there was c.args.client c.args.number c.requires in
-    let fewer = subst (λ (l : Landed). refused_of l c.args.client < landed_of l c.args.client)
-    (sym c.self.view_is) c.pass.ensures.fewer in
-    wider _ f.frame f.command (vec_capacity f.refusals) (vec_capacity c.refuse.new.refusals) c.refuse.ensures.room
-    (refusal-landed _ f.frame f.command (vec_capacity f.refusals) c.args.client c.args.number
-    (f.refused_frames + c.one_if.result) (f.refused_commands + c.one_if-in-Some.result) c.in-Some.why
-    c.refuse.new.refusals.items c.self.invariant
-    (ap (λ n. f.refused_frames + n) c.one_if.ensures) (ap (λ n. f.refused_commands + n) c.one_if-in-Some.ensures)
-    c.refuse.ensures.placed fewer
-    (passed was _ _ c.args.client c.args.number c.self.view_is c.pass.ensures.items at c.pass.ensures.passed))
+    let (at, there) = subst (λ (l : Landed). (c.args.number ≡ next_place l true) × (c.args.number < length l.items))
+    (sym c.self.view_is) (number-there c.args.self.now true c.args.number
+    (subst (λ b. next_number c.args.self.now b ≡ Some c.args.number) c.if-client.true c.requires.next)) in
+    let put = placed _ c.args.self.now f.frame f.command f.codes c.put.new.self c.args.client c.args.number c.args.why
+    c.self.view_is c.self.invariant c.requires.next c.requires.reason
+    (λ lines kind is. ap (reason_by lines kind) c.put.ensures.put ∙ c.code_of.ensures.says lines kind is)
+    c.put.ensures.others in
+    let (more, few) = counted c.args.number c.one_if-refused.result f.refused_frames c.args.why
+    (refusals_in f.lines f.codes f.items) (refusals_in f.lines c.put.new.self f.items) put
+    (c.one_if-refused.ensures ∙ ap (λ b. if b then 1 else 0) c.is_some.ensures) in
+    frame-landed _ f.frame f.command c.args.number c.next_frame-self-inside.result
+    (f.refused_frames + c.one_if-refused.result) f.codes c.put.new.self
+    (refusals_in f.lines c.put.new.self f.items) c.self.invariant at there c.next_frame-self-inside.ensures
+    c.put.ensures.others c.put.ensures.room more few
 
-pub returns-in_default-clause-refusals : goal.returns-in_default-clause-refusals
-returns-in_default-clause-refusals c =
-    let was = c.args.self.now in
-    let (at, there) = number-there was c.args.client c.args.number c.requires in
-    let others = subst (λ n. AreOthers n c.pass.new.self.refusals) (sym at) c.pass.ensures.others in
-    let none : c.args.why ≡ None = c.in_default.is in
-    subst (λ (why : Option Refusal). IsPlaced c.args.number (refused_by c.args.number why) was.refusals
-    c.pass.new.self.refusals) (sym none)
-    (subst (λ (refusals : List (ℕ × Refusal)). IsPlaced c.args.number [] refusals c.pass.new.self.refusals)
-    c.pass.ensures.refusals
-    (none-put c.args.number c.pass.new.self.refusals others.order others.other))
-
--- one more has landed, which isn't refused, or is
-kept : (was now : Landed) (client : Bool) → now.items ≡ was.items →
-    now.frames ≡ was.frames + (if client then 1 else 0) → now.commands ≡ was.commands + (if client then 0 else 1) →
-    (now.refused_frames ≡ was.refused_frames) × (now.refused_commands ≡ was.refused_commands) →
-    HasPassed was now client false
-kept was now client items frames commands refused = record {
-  items = items;
-  frames = frames;
-  commands = commands;
-  refused_frames = (let e = refused.0 in omega arith);
-  refused_commands = (let e = refused.1 in omega arith);
-}
-
-more : (was now : Landed) (client : Bool) (refusals : List (ℕ × Refusal)) (a b : ℕ) (why : Option Refusal)
-    (reason : Refusal) → HasPassed was now client false →
-    a ≡ (if client then 1 else 0) → b ≡ (if not client then 1 else 0) → why ≡ Some reason →
-    HasPassed was (record now {
-      refused_frames = now.refused_frames + a;
-      refused_commands = now.refused_commands + b;
-      refusals = refusals;
-    }) client (is_some why)
-more was now client refusals a b why reason is frame command refused = rw refused (record {
-  items = is.items;
-  frames = is.frames;
-  commands = is.commands;
-  refused_frames = ap (λ n. n + a) is.refused_frames ∙ ap (λ n. was.refused_frames + 0 + n) frame
-      ∙ (let e : was.refused_frames + 0 + (if client then 1 else 0) ≡ was.refused_frames + (if client then 1 else 0) =
-      omega arith in e);
-  refused_commands = ap (λ n. n + b) is.refused_commands ∙ ap (λ n. was.refused_commands + 0 + n) command
-      ∙ (let e : was.refused_commands + 0 + (if not client then 1 else 0) ≡ was.refused_commands +
-      (if not client then 1 else 0) = omega arith in e);
-})
-
-pub returns-in_default-clause-passed : goal.returns-in_default-clause-passed
-returns-in_default-clause-passed c =
-    let e = c.pass.ensures in
-    let none : c.args.why ≡ None = c.in_default.is in
-    subst (λ (why : Option Refusal). HasPassed c.args.self.now c.pass.new.self c.args.client (is_some why)) (sym none)
-    (kept c.args.self.now c.pass.new.self c.args.client e.items e.frames e.commands e.refused)
-
-pub returns-in-Some-clause-passed : goal.returns-in-Some-clause-passed
-returns-in-Some-clause-passed c =
-    let e = c.pass.ensures in
-    more c.args.self.now _ c.args.client c.refuse.new.refusals.items c.one_if.result c.one_if-in-Some.result c.args.why
-    c.in-Some.why
-    (subst (λ (l : Landed). HasPassed c.args.self.now l c.args.client false) (sym c.self.view_is)
-    (kept c.args.self.now c.pass.new.self c.args.client e.items e.frames e.commands e.refused))
-    c.one_if.ensures c.one_if-in-Some.ensures c.in-Some.is
+pub invariant_of-self-else-client : goal.invariant_of-self-else-client
+invariant_of-self-else-client c =
+    let f = c.self.inside in
+    let (at, there) = subst (λ (l : Landed). (c.args.number ≡ next_place l false) × (c.args.number < length l.items))
+    (sym c.self.view_is) (number-there c.args.self.now false c.args.number
+    (subst (λ b. next_number c.args.self.now b ≡ Some c.args.number) c.if-client.false c.requires.next)) in
+    let put = placed _ c.args.self.now f.frame f.command f.codes c.put.new.self c.args.client c.args.number c.args.why
+    c.self.view_is c.self.invariant c.requires.next c.requires.reason
+    (λ lines kind is. ap (reason_by lines kind) c.put.ensures.put ∙ c.code_of.ensures.says lines kind is)
+    c.put.ensures.others in
+    let (more, few) = counted c.args.number c.one_if-refused.result f.refused_commands c.args.why
+    (refusals_in f.lines f.codes f.items) (refusals_in f.lines c.put.new.self f.items) put
+    (c.one_if-refused.ensures ∙ ap (λ b. if b then 1 else 0) c.is_some.ensures) in
+    command-landed _ f.frame f.command c.args.number c.next_command-self-inside.result
+    (f.refused_commands + c.one_if-refused.result) f.codes c.put.new.self
+    (refusals_in f.lines c.put.new.self f.items) c.self.invariant at there c.next_command-self-inside.ensures
+    c.put.ensures.others c.put.ensures.room more few
