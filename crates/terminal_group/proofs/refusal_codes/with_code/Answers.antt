@@ -1,5 +1,5 @@
 -- What the place adds isn't in the word yet.
-use Rattle.std.proofs.Common.{◌+◌, ap, ◌∙◌, arith}
+use Rattle.std.proofs.Common.{◌+◌, ◌*◌, ◌^◌, ◌%◌, ap, ◌∙◌, arith}
 use Rattle.std.proofs.lemmas.Nat.{shl_whole}
 use Rattle.terminal_group.proofs.RefusalCodeLaws.{put-fits}
 use Rattle.terminal_group.proofs.refusal_codes.with_code.Goals as goal
