@@ -328,5 +328,5 @@ reason-at landed number kind (Some why) is kept =
     λ item there. (
       place,
       ap (λ k. slice_get (reasons landed.lines k) place) (kept item there)
-      ∙ ap (λ l. slice_get l place) (bare-reasons landed.lines kind) ∙ found,
+          ∙ ap (λ l. slice_get l place) (bare-reasons landed.lines kind) ∙ found,
     )

@@ -93,12 +93,7 @@ fn first_refusal(
 }
 
 /// Why an item was refused, where it was.
-fn reason_at(
-    items: &BareList,
-    codes: &RefusalCodes,
-    lines: u8,
-    number: u32,
-) -> Option<Refusal>
+fn reason_at(items: &BareList, codes: &RefusalCodes, lines: u8, number: u32) -> Option<Refusal>
     requires item { number < length items.now }
     requires code { number < 32 * length codes.now }
     ensures { (item : Item) → slice_get items.now number ≡ Some item →

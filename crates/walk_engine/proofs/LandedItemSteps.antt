@@ -1,11 +1,11 @@
 -- The next item lands or stalls, and what that leaves of one direction, of a walk and of the totals.
 use Rattle.std.proofs.Common.{◌≡◌, ℕ, ◌+◌, nat_lt, slice_get, Option, Some, None, option_map, inl, inr, refl, sym, ◌∙◌}
 use Rattle.std.proofs.Common.{ap, ◌-◌, ◌<◌, ◌≤◌, ◌&&◌, not, min, Bool, true, false, List, [], ◌∷◌, length, map, subst}
-use Rattle.std.proofs.Common.{IfSome, arith, is_some, ltb-false, lt-ltb, le-ltb}
+use Rattle.std.proofs.Common.{IfSome, take, arith, is_some, ltb-false, lt-ltb, le-ltb}
 use Rattle.std.proofs.lemmas.Bool.{cases_Bool}
 use Rattle.law_model.specs.Common.{Leg, Counts, Step, land_due, step, BackCell, used_in, Scenario, DueCommand}
 use Rattle.law_model.specs.Common.{DueFrame, order_of, Source, refusal, Stream, refusal_while, frame_refusal, Course}
-use Rattle.law_model.specs.Common.{Told, most_items, dues_of, held}
+use Rattle.law_model.specs.Common.{Told, most_items, dues_of, held, scenario_by}
 use Rattle.law_model.specs.declared.script_types.Item.{Item}
 use Rattle.law_model.specs.declared.walk_events.Event.{Event}
 use Rattle.law_model.specs.declared.walk_events.Event.TheVariants.{Accept, Command}
@@ -14,7 +14,7 @@ use Rattle.law_model.specs.declared.walk_events.StallCause.TheVariants.{NotDue, 
 use Rattle.law_model.specs.declared.item_refusals.Refusal.{Refusal}
 use Rattle.law_walk.specs.Common.{walk_plan, refusal_at, back_cell, last_packet, IsWalked, Numbered, told_before}
 use Rattle.law_walk.specs.Common.{is_client, refused_by, refusals_of, IsPlaced, totals_of, with_frame_told}
-use Rattle.law_walk.specs.Common.{with_command_told}
+use Rattle.law_walk.specs.Common.{session_of, with_command_told}
 use Rattle.terminal_group.specs.ItemPlaces.{is_frame, is_command, place_of}
 use Rattle.terminal_group.proofs.ItemPlaceAndHeldItemLaws.{due_found, frame-due, command-due, place-found}
 use Rattle.walk_engine.specs.Common.{stall_by, answer_by, refusal_of_item, refusal_in_event, moved_of, counts_after}
@@ -529,7 +529,7 @@ module _ (leg : Leg) (backs : ℕ) (parts : Parts) (is : WayStands leg backs par
         ∙ ap (refusal_of_item leg place) is_due.next in
         let lines : length leg.config.windows ≡ landing.lines = is.sound.network.windows_each ∙ sym known.lines in
         reason-at landing number kind why (λ reason e. subst (λ n. IsReason n kind reason) lines
-        (kind-reason _ _ _ _ kind reason (sym told ∙ e)))
+        (kind-reason (scenario_by leg) (session_of leg) is_due.due (take place leg.items) kind reason (sym told ∙ e)))
         (kept-item leg.items landing known.items number kind handed)
 
     -- ---- what is known of the items, once one has landed
