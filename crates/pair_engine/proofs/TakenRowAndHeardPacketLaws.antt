@@ -589,6 +589,7 @@ module _ (was own other : PairWay) (row : ℕ) (is : EndsPacket was own other ro
               inbox is.beside.other_way.stands is.beside.other_way.stands.walked)
               (let has = is.beside.other_way.landed in record {
                 items = has.items;
+                lines = has.lines;
                 frames = has.frames;
                 commands = has.commands;
                 refusals = has.refusals;
