@@ -27,9 +27,7 @@ pub use limits::{
     LONGEST_RESTORE, LONGEST_SLIP, MOST_COUNT, MOST_DRAWN_TICKS, MOST_ITEMS, MOST_LINES,
     MOST_PACKETS, MOST_TICKS, MOST_WINDOWS,
 };
-pub use script_items::{
-    FrameRoom, ItemHead, ItemList, ItemSort, Lent, Place, Refusals, Stream, Streams,
-};
+pub use script_items::{FrameRoom, ItemHead, ItemList, ItemSort, Lent, Place, Stream, Streams};
 pub use script_types::{
     Config, Delays, EventLine, EventList, Item, ItemKind, LostList, Octets, Options, Script,
     WindowList, WindowLists,
