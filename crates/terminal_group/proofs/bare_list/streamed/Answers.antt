@@ -1,5 +1,5 @@
 -- By its place in the rate.
-use Rattle.std.proofs.Common.{◌≡◌, ℕ, ◌≤◌, ◌-◌, length, sym, ap, ap₂, ◌∙◌, arith}
+use Rattle.std.proofs.Common.{◌≡◌, ℕ, length, sym, ap, ap₂, ◌∙◌, arith}
 use Rattle.terminal_group.specs.BareList.{bare_frame}
 use Rattle.law_rates.specs.Rates.{due_of, frame_at, frame_of, size_at, state_of}
 use Rattle.law_rates.proofs.RateFrameLaws.{length-frame_of}

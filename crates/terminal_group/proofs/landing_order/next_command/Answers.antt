@@ -1,7 +1,5 @@
 -- The item here is of the kind, or is passed, and with it the rest of its stream.
-use Rattle.std.proofs.Common.{◌≡◌, ◌<◌, ◌≤◌, length, inl, inr, sym, ◌∙◌, ap, subst, arith}
-use Rattle.std.proofs.lemmas.Bool.{cases_lt}
-use Rattle.law_model.specs.declared.script_types.Item.{Item}
+use Rattle.std.proofs.Common.{◌≡◌, ◌<◌, length, sym, ◌∙◌, subst, arith}
 use Rattle.law_model.proofs.ListLaws.{slice_get-inside}
 use Rattle.terminal_group.specs.ItemPlaces.{is_command}
 use Rattle.terminal_group.proofs.ItemPlaceAndHeldItemLaws.{place-here, place-over, place-none, none-between}

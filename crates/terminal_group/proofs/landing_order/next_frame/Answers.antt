@@ -1,5 +1,5 @@
 -- The item here is of the kind, or is passed.
-use Rattle.std.proofs.Common.{◌≡◌, ◌<◌, ◌≤◌, length, sym, ◌∙◌, subst, arith}
+use Rattle.std.proofs.Common.{◌≡◌, ◌<◌, length, sym, ◌∙◌, subst, arith}
 use Rattle.law_model.proofs.ListLaws.{slice_get-inside}
 use Rattle.terminal_group.specs.ItemPlaces.{is_frame}
 use Rattle.terminal_group.proofs.ItemPlaceAndHeldItemLaws.{place-here, place-passed, place-none}

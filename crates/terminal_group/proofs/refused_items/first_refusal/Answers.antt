@@ -1,5 +1,5 @@
 -- The items passed aren't refused, and the one that is found is the first.
-use Rattle.std.proofs.Common.{◌≡◌, ◌+◌, ◌-◌, ◌*◌, ◌/◌, ◌%◌, ◌<◌, ◌≤◌, ℕ, ◌++◌, length, Option, sym, ap, ◌∙◌, arith}
+use Rattle.std.proofs.Common.{◌≡◌, ◌+◌, ◌-◌, ◌*◌, ◌/◌, ◌%◌, ℕ, ◌++◌, Option, sym, ap, ◌∙◌, arith}
 use Rattle.law_model.specs.declared.item_refusals.Refusal.{Refusal}
 use Rattle.law_model.proofs.ListLaws.{slice_get-inside}
 use Rattle.law_walk.specs.Common.{refused_by}

@@ -1,5 +1,5 @@
 -- A single item says it itself, and one of a stream by its rate.
-use Rattle.std.proofs.Common.{◌<◌, ◌-◌, Some, sym, ◌∙◌, ap, subst, arith}
+use Rattle.std.proofs.Common.{Some, sym, ◌∙◌, ap, subst, arith}
 use Rattle.law_model.specs.session.Streams.{IsPlace}
 use Rattle.terminal_group.proofs.BareListLaws.{single_low, single_told, streamed_there, stream_told}
 use Rattle.terminal_group.proofs.bare_list.BareList.head.Goals as goal

@@ -1,9 +1,8 @@
 -- The singles are copied, and the streams among them are the same.
-use Rattle.std.proofs.Common.{◌≡◌, ◌≤◌, All, List, map, subst, ap, ◌∙◌, arith}
+use Rattle.std.proofs.Common.{All, map, subst, ap, ◌∙◌, arith}
 use Rattle.std.proofs.lemmas.Simd.{map-map}
-use Rattle.law_model.specs.declared.script_types.Item.{Item}
 use Rattle.law_model.specs.session.Items.{IsShort, head_of}
-use Rattle.terminal_group.specs.Item.{bare_items, item_in}
+use Rattle.terminal_group.specs.Item.{item_in}
 use Rattle.terminal_group.proofs.BareListLaws.{copied, copied_are, all-singles}
 use Rattle.terminal_group.proofs.bare_list.BareList.of.Goals as goal
 

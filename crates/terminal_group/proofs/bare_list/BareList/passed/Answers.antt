@@ -1,5 +1,5 @@
 -- The number behind a stream is behind all its frames.
-use Rattle.std.proofs.Common.{◌+◌, ◌<◌, ◌≤◌, List, length, map, slice_get, ◌∙◌, ap, subst, arith}
+use Rattle.std.proofs.Common.{◌≤◌, List, length, map, slice_get, ◌∙◌, ap, subst, arith}
 use Rattle.law_model.specs.declared.script_types.Item.{Item}
 use Rattle.law_model.specs.session.Streams.{IsPlace}
 use Rattle.terminal_group.specs.Item.{item_in}

@@ -5,7 +5,7 @@ use Rattle.law_model.specs.declared.script_types.Item.{Item}
 use Rattle.law_model.specs.declared.script_types.ItemKind.{ItemKind}
 use Rattle.law_model.specs.declared.item_refusals.Refusal.{Refusal}
 use Rattle.law_model.proofs.ListLaws.{slice_get-inside}
-use Rattle.law_walk.specs.Common.{is_client, IsPlaced, refused_by}
+use Rattle.law_walk.specs.Common.{IsPlaced, refused_by}
 use Rattle.terminal_group.specs.Landed.{Landed, IsLanded, IsReasonAt, next_number, next_place}
 use Rattle.terminal_group.specs.RefusalCodes.{IsReason, code_at, reason_by, refusals_in}
 use Rattle.terminal_group.proofs.RefusalCodeLaws.{code-placed}

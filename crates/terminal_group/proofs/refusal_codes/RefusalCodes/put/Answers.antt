@@ -1,5 +1,5 @@
 -- The bits of its place were 0.
-use Rattle.std.proofs.Common.{◌≡◌, ◌+◌, ◌*◌, ◌^◌, ◌/◌, ◌%◌, ◌<◌, List, ℕ, get_or, set, length, sym, ap, ◌∙◌, arith}
+use Rattle.std.proofs.Common.{◌≡◌, ◌+◌, ◌*◌, ◌^◌, ◌/◌, ◌%◌, ◌<◌, List, ℕ, get_or, set, length, ap, ◌∙◌, arith}
 use Rattle.terminal_group.specs.RefusalCodes.{code_in, code_at}
 use Rattle.terminal_group.proofs.RefusalCodeLaws.{same-word, word-here, word-other}
 use Rattle.terminal_group.proofs.refusal_codes.RefusalCodes.put.Goals as goal

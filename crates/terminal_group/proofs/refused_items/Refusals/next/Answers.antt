@@ -1,5 +1,5 @@
 -- Those behind the one that is found are left.
-use Rattle.std.proofs.Common.{◌≡◌, ◌+◌, ◌<◌, ◌≤◌, length, arith}
+use Rattle.std.proofs.Common.{arith}
 use Rattle.terminal_group.specs.RefusalCodes.{code_at}
 use Rattle.terminal_group.proofs.RefusalCodeLaws.{codes-past}
 use Rattle.terminal_group.proofs.refused_items.Refusals.next.Goals as goal
