@@ -17,6 +17,10 @@ pub(crate) fn idle_run(piece: &[u8]) -> usize
     ensures within { 4 * result ≤ length piece.now }
     ensures run { take (4 * result) piece.now ≡ flat_map with_header (replicate result []) }
 {
+    // Where frames wait, most headers are no idle's.
+    if piece.len() < 4 || !is_idle(piece, 0) {
+        return 0;
+    }
     let pairs = word_run(piece, TWO_IDLES);
     let at = 8 * pairs;
     if piece.len() - at >= 4 && is_idle(piece, at) {

@@ -35,6 +35,22 @@ pub type_fault-linear : (octets : List ℕ) → linear_type_fault octets ≡ typ
 unfolding linear_type_fault
 type_fault-linear octets = refl
 
+-- ---- that of an Ethernet frame has no fault
+header-sound : type_fault type_header ≡ None
+unfolding type_fault hec_of bits divide add_front number_behind
+header-sound = refl
+
+header-check : type_check type_header ≡ hec_of (type_field type_header)
+unfolding hec_of bits divide add_front number_behind
+header-check = refl
+
+pub type_fault-none : (octets : List ℕ) → octets ≡ type_header → type_fault octets ≡ None
+type_fault-none octets same = ap type_fault same ∙ header-sound
+
+pub type_check-right : (octets : List ℕ) → octets ≡ type_header → type_check octets ≡ hec_of (type_field octets)
+type_check-right octets same =
+    ap type_check same ∙ header-check ∙ sym (ap (λ o. hec_of (type_field o)) same)
+
 -- ---- the words that the octets of a type header say
 none_tells : (a b c d : Bool) (x y z w : TypeFault) →
     (if a then (if b then (if c then (if d then None else Some x) else Some y) else Some z) else Some w) ≡ None →

@@ -28,6 +28,10 @@ pub fn read_type(octets: &[u8; 4]) -> Result<(), TypeFault>
         × (said ≢ found)) }
     ensures ok { IsOk result ↔ (octets.now ≡ type_header) }
 {
+    // Most are this very header, whose check is known.
+    if *octets == type_bytes() {
+        return Ok(());
+    }
     read_with(octets, 0, 0)
 }
 
