@@ -8,7 +8,7 @@ pub returns-then-is_idle-clause-run : goal.returns-then-is_idle-clause-run
 returns-then-is_idle-clause-run c =
     let n = c.word_run-pairs.result in
     (let e : 4 * (2 * n + 1) ≡ 8 * n + 4 = omega arith in ap (λ m. take m c.args.piece.now) e)
-    ∙ c.is_idle.ensures c.if-is_idle.true
+    ∙ c.is_idle-then-piece-at-ge4.ensures c.if-is_idle.true
     ∙ ap (λ l. l ++ idle_header) (c.word_run-pairs.ensures.run ∙ repeated-idles n)
     ∙ sym (idles-more (2 * n))
 
