@@ -1,9 +1,13 @@
 //! The words of a line. Nothing is copied.
-ghost use Rattle.std.specs.Prelude.{◌≡◌, ℕ, ◌≤◌, ◌<◌, ◌+◌, ◌∷◌, [], List, length, IfSome, IfNone, true, false, ◌≢◌};
+ghost use Rattle.std.specs.Prelude.{◌≡◌, ℕ, ◌≤◌, ◌<◌, ◌+◌, ◌∷◌, ◌++◌, [], List, length, IfSome, IfNone, true, false, ◌≢◌};
 ghost use Rattle.std.specs.Prelude.{bytes_eq};
+ghost use Rattle.text_lines.specs.Cut.{Lacks};
 ghost use Rattle.text_lines.specs.WordsOfLine.{words, is_skipped};
 
 use crate::split_text::cut;
+
+// Most words are shorter, so that looking at their octets one by one is faster than a search by vectors.
+const SHORT: usize = 8;
 
 /// A text without the spaces at its front.
 fn trim_start(mut text: &[u8]) -> &[u8]
@@ -19,6 +23,21 @@ fn trim_start(mut text: &[u8]) -> &[u8]
     text
 }
 
+/// What stands before and after the first space.
+#[inline]
+fn cut_space(text: &[u8]) -> Option<(&[u8], &[u8])>
+    ensures before { IfSome result (λ parts. Lacks 32 parts.0.now) }
+    ensures some { IfSome result (λ parts. text.now ≡ parts.0.now ++ 32 ∷ parts.1.now) }
+    ensures none { IfNone result (Lacks 32 text.now) }
+{
+    for i in 0..text.len().min(SHORT) {
+        if text[i] == b' ' {
+            return Some((&text[..i], &text[i + 1..]));
+        }
+    }
+    cut(text, b' ')
+}
+
 /// The first word of a line, and the line after it.
 pub fn next_word(line: &[u8]) -> Option<(&[u8], &[u8])>
     ensures some { IfSome result (λ parts. words line.now ≡ parts.0.now ∷ words parts.1.now) }
@@ -31,7 +50,7 @@ pub fn next_word(line: &[u8]) -> Option<(&[u8], &[u8])>
     if text.is_empty() {
         return None;
     }
-    match cut(text, b' ') {
+    match cut_space(text) {
         Some((word, rest)) => Some((word, rest)),
         None => Some((text, &text[text.len()..])),
     }
