@@ -1,5 +1,5 @@
 -- What is handed in is the item of its number.
-use Rattle.std.proofs.Common.{◌≡◌, ◌∙◌}
+use Rattle.std.proofs.Common.{◌∙◌}
 use Rattle.terminal_group.proofs.LandingLegItemLaws.{kept-item}
 use Rattle.parts_tests.proofs.group_state.submitted.Goals as goal
 
