@@ -8,7 +8,7 @@ use Rattle.law_model.specs.Common.{delineate_within, hunt_within, steps_in, walk
 use Rattle.law_walk.specs.Common.{walk_plan, IsWalked, delivered_of, landed_items, numbered, refusals_among, report_of}
 use Rattle.law_walk.specs.Common.{totals_of}
 use Rattle.std.proofs.lemmas.Grind.{flat_map-append}
-use Rattle.law_live.specs.Common.{answer_text, answers_text, Saying, answers_from, answers_to, counts_from}
+use Rattle.law_live.specs.Common.{answer_text, answers_text, Telling, Saying, answers_from, answers_to, counts_from}
 use Rattle.law_live.specs.Common.{counts_said, live_from, Live, live_after, rounds_from, Agrees, CanSay, CanSayAll}
 use Rattle.law_live.specs.Common.{LineCourse, closed, course_at, cut_at, cuts, lands, leg_by, mended_at, mends, passes}
 use Rattle.law_live.specs.Common.{uncut, windows_by, with_course, rounds_until, Rises, times_told, IsWellSaid}
@@ -71,13 +71,13 @@ answers-more leg s (saying ∷ said) more =
     ∙ sym (append_assoc (answers_to leg s saying) (answers_from leg next said)
     (answers_from leg (counts_from (walk_plan leg) next said) more))
 
-pub text-more : (leg : Leg) (s : Counts) (said more : List Saying) (step : ℕ → List ℕ) →
-    answers_text step (answers_from leg s (said ++ more))
-    ≡ answers_text step (answers_from leg s said)
-    ++ answers_text step (answers_from leg (counts_from (walk_plan leg) s said) more)
-text-more leg s said more step =
-    ap (answers_text step) (answers-more leg s said more)
-    ∙ flat_map-append (answer_text step) (answers_from leg s said)
+pub text-more : (leg : Leg) (s : Counts) (said more : List Saying) (tells : Telling) →
+    answers_text tells (answers_from leg s (said ++ more))
+    ≡ answers_text tells (answers_from leg s said)
+    ++ answers_text tells (answers_from leg (counts_from (walk_plan leg) s said) more)
+text-more leg s said more tells =
+    ap (answers_text tells) (answers-more leg s said more)
+    ∙ flat_map-append (answer_text tells) (answers_from leg s said)
     (answers_from leg (counts_from (walk_plan leg) s said) more)
 
 -- ---- Which legs agree: that of what was said does, and one that agrees with more agrees with less.
@@ -216,7 +216,7 @@ module _ (config : Config) (leg : Leg) (sound : IsSound leg) where
   plan_is : IsPlan (walk_plan leg)
   plan_is = has-plan leg (sound-walks leg sound)
 
-  can-leg : (said : List Saying) → leg.config ≡ record config { windows = leg.config.windows } →
+  pub can-leg : (said : List Saying) → leg.config ≡ record config { windows = leg.config.windows } →
       IsWellSaid config said → CanSayAll leg.config.ticks (opened config) said
   can-leg said network well =
       let ticks : config.ticks ≡ leg.config.ticks = sym (ap (λ (c : Config). c.ticks) network) in

@@ -131,7 +131,8 @@ got-to leg s (passes k) =
     let n : ℕ = rounds_for k (walk_plan leg) s in
     let now : ℕ = (counts_said (walk_plan leg) s (passes k)).ticks in
     ap (λ l. delivered_of leg s.rows ++ l)
-    (flat_map-append got_of (rounds_answers n leg s) (now_at now ∷ []) ∙ append-nil (frames_got (rounds_answers n leg s)))
+    (flat_map-append got_of (rounds_answers n leg s) (now_at s.ticks now ∷ [])
+    ∙ append-nil (frames_got (rounds_answers n leg s)))
     ∙ got-rounds n leg s
 
 pub got-all : (said : List Saying) (leg : Leg) (s : Counts) →
@@ -207,7 +208,7 @@ refused-to leg live s (passes k) stands =
     let n : ℕ = rounds_for k (walk_plan leg) s in
     let now : ℕ = (counts_said (walk_plan leg) s (passes k)).ticks in
     ap (λ l. refusals_among leg (numbered 0 live.items) ++ l)
-    (flat_map-append refusal_of (rounds_answers n leg s) (now_at now ∷ [])
+    (flat_map-append refusal_of (rounds_answers n leg s) (now_at s.ticks now ∷ [])
     ∙ append-nil (items_refused (rounds_answers n leg s)) ∙ refused-rounds n leg s)
     ∙ append-nil (refusals_among leg (numbered 0 live.items))
 
@@ -281,7 +282,7 @@ land-ticks ticks None s next same = refl
 land-ticks ticks (Some due) s next same =
     elim (cases_Bool (nat_lt ticks due)) [ inl e ↦ rw e refl | inr e ↦ rw e same ]
 
-lands-ticks : (plan : Plan) (s : Counts) (kind : ItemKind) → (counts_said plan s (lands kind)).ticks ≡ s.ticks
+pub lands-ticks : (plan : Plan) (s : Counts) (kind : ItemKind) → (counts_said plan s (lands kind)).ticks ≡ s.ticks
 lands-ticks plan s (Frame octets) = land-ticks s.ticks _ s (record s { frames = s.frames + 1 }) refl
 lands-ticks plan s (Add line) = land-ticks s.ticks _ s (record s { commands = s.commands + 1 }) refl
 lands-ticks plan s (Remove line) = land-ticks s.ticks _ s (record s { commands = s.commands + 1 }) refl
@@ -302,7 +303,7 @@ times-to leg s (mends m) = omega arith
 times-to leg s (passes k) =
     let n : ℕ = rounds_for k (walk_plan leg) s in
     let now : ℕ = (counts_said (walk_plan leg) s (passes k)).ticks in
-    subst (Rises s.ticks now) (sym (flat_map-append time_of (rounds_answers n leg s) (now_at now ∷ [])))
+    subst (Rises s.ticks now) (sym (flat_map-append time_of (rounds_answers n leg s) (now_at s.ticks now ∷ [])))
     (rises-append s.ticks now now (times_told (rounds_answers n leg s)) (now ∷ []) (times-rounds n leg s)
     (omega arith, omega arith))
 
@@ -370,7 +371,7 @@ steps-of leg s (passes k) =
     let n : ℕ = rounds_for k (walk_plan leg) s in
     let now : ℕ = (counts_said (walk_plan leg) s (passes k)).ticks in
     ap (λ l. steps_to s.ticks ++ l)
-    (flat_map-append step_of (rounds_answers n leg s) (now_at now ∷ [])
+    (flat_map-append step_of (rounds_answers n leg s) (now_at s.ticks now ∷ [])
     ∙ append-nil (steps_made (rounds_answers n leg s)))
     ∙ steps-rounds n leg s
 

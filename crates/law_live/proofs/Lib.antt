@@ -2,6 +2,7 @@ pub mod AgreeingLegConversationLaws
 pub mod AnsweredFrameAndRefusalLaws
 pub mod ConversationCountAndScriptLaws
 pub mod LiveRoundAndLandingLaws
+pub mod QueueAndRoomLaws
 pub mod SamePastRoundAndAnswerLaws
 pub mod SamePastTableAndCellLaws
 pub mod ToldMemberLaws

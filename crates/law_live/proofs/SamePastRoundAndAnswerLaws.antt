@@ -18,12 +18,12 @@ use Rattle.law_live.specs.Common.{after_rounds, live_round, rounds_for, rounds_u
 use Rattle.law_live.specs.Common.{HasLater, IsWellSaid, Live, Saying, answers, answers_from, answers_to, counts_from}
 use Rattle.law_live.specs.Common.{counts_said, cuts, got_at, item_answers, lands, live_after, live_counts, live_from}
 use Rattle.law_live.specs.Common.{live_of, mends, now_at, opened, passes, refused_answer, round_answers}
-use Rattle.law_live.specs.Common.{rounds_answers, rounds_from, rounds_of, rounds_said, steps_between}
+use Rattle.law_live.specs.Common.{rounds_answers, rounds_from, rounds_of, rounds_said, steps_between, waiting_at}
 use Rattle.law_live.proofs.LiveRoundAndLandingLaws.{IsSettled, Settled, settled-at, settled-free, enough, fits-round}
 use Rattle.law_live.proofs.LiveRoundAndLandingLaws.{settled-round, goes-back, goes-carry, goes-round, goes-tick}
 use Rattle.law_live.proofs.SamePastTableAndCellLaws.{AtAlike, PathAlike, PathsAlike, alike-at, refusal-same, rows-same}
 use Rattle.law_live.proofs.SamePastTableAndCellLaws.{agrees-with_parts, alike-legs, cells-same-legs as cells-same}
-use Rattle.law_live.proofs.SamePastTableAndCellLaws.{leg_with, same-below, tables-same, paths-alike}
+use Rattle.law_live.proofs.SamePastTableAndCellLaws.{leg_with, same-below, tables-same, waiting-same, paths-alike}
 use Rattle.std.proofs.lemmas.List.{length-map}
 use Rattle.std.proofs.Math.Seq.{take-append_seam}
 use Rattle.law_model.specs.declared.script_types.Config.{Config}
@@ -279,6 +279,19 @@ module _ (plan : Plan) (items : List Due) (paths : List LinePath) (n : ℕ)
           ∙ ap (λ rounds. rounds_until rounds twin (s.ticks + k) s) (swapped (bound plan) (bound twin))
           ∙ more-rounds slow' fast' slip' twin is' (bound plan) from (s.ticks + k) s fits' settled' low few
 
+-- ---- the items of a leg that have landed are those that were said
+pub first-items : (live : Live) (s : Counts) (all : List Item) → Stands live s → HasLater live all →
+    take (s.frames + s.commands) all ≡ live.items
+first-items live s all stands more =
+    let sizes = dues-size (dues_of live.items) in
+    let size = length-map live.items (λ (item : Item). due_of item.due item.kind) in
+    let frames = stands.frames in
+    let commands = stands.commands in
+    let number : s.frames + s.commands ≡ length live.items = omega (arith, sizes, size, frames, commands) in
+    ap (λ count. take count all) number
+    ∙ ap (take (length live.items)) more.are
+    ∙ take-append_seam live.items more.later
+
 -- ---- Two legs in which the same was said so far: what is answered to it is the same.
 -- ticks never go back
 passed-rises : (said : List Saying) (live : Live) → live.passed ≤ (live_from live said).passed
@@ -357,18 +370,6 @@ module _ (config : Config) (now : Live) (windows windows' : List (List Window)) 
         ∙ ap (λ next. round_answers other-answers s next ++ rounds_answers rounds other-answers next) turns.0.same
 
     -- ---- an item
-    first-items : (live : Live) (s : Counts) (all : List Item) → Stands live s → HasLater live all →
-        take (s.frames + s.commands) all ≡ live.items
-    first-items live s all stands more =
-        let sizes = dues-size (dues_of live.items) in
-        let size = length-map live.items (λ (item : Item). due_of item.due item.kind) in
-        let frames = stands.frames in
-        let commands = stands.commands in
-        let number : s.frames + s.commands ≡ length live.items = omega (arith, sizes, size, frames, commands) in
-        ap (λ count. take count all) number
-        ∙ ap (take (length live.items)) more.are
-        ∙ take-append_seam live.items more.later
-
     item-same : (live : Live) (s : Counts) (kind : ItemKind) → Stands live s → HasLater live items →
         HasLater live items' → s.ticks ≤ now.passed → item_answers leg s kind ≡ item_answers other-answers s kind
     item-same live s kind stands more more' low =
@@ -408,7 +409,7 @@ module _ (config : Config) (now : Live) (windows windows' : List (List Window)) 
         record {
           counts = counts;
           rounds = rounds;
-          answers = ap₂ (λ told (made : Counts). told ++ now_at made.ticks ∷ [])
+          answers = ap₂ (λ told (made : Counts). told ++ now_at s.ticks made.ticks ∷ [])
               (rounds-same (rounds_for k plan s) s turns ∙ ap (λ n. rounds_answers n other-answers s) rounds) counts;
         }
 
@@ -482,6 +483,7 @@ pub record Later (config : Config) (said : List Saying) (leg other-answers : Leg
   pub cells : (j : ℕ) → j < steps_in (live_of config said).passed → cell_taken leg j ≡ cell_taken other-answers j
   pub tables : (j : ℕ) → j < steps_in (live_of config said).passed →
       table_in leg (16 * j + 9) ≡ table_in other-answers (16 * j + 9)
+  pub waiting : (t : ℕ) → t ≤ (live_of config said).passed → waiting_at leg t ≡ waiting_at other-answers t
 
 later-with : (config : Config) (said : List Saying) (windows windows' : List (List Window)) (items items' : List Item) →
     IsSound (leg_with config windows items) → IsSound (leg_with config windows' items') → IsWellSaid config said →
@@ -508,6 +510,7 @@ later-with config said windows windows' items items' sound sound' well agrees ag
       answers = same.answers ∙ ap (λ c. answers_from other-answers c said) begun;
       cells = cells-same config now windows windows' items items' lag most agrees agrees' can can';
       tables = tables-same config now windows windows' items items' lag most agrees agrees';
+      waiting = waiting-same config now windows windows' items items' lag most agrees agrees';
     }
 
 pub later : (config : Config) (said : List Saying) (leg other-answers : Leg) → IsSound leg → IsSound other-answers →

@@ -43,7 +43,7 @@ use Rattle.member_cells.specs.declared.containers_and_cells.BackCell.TheVariants
 use Rattle.law_model.specs.declared.script_types.Config.{Config}
 use Rattle.law_model.specs.members.Damage.{carried}
 use Rattle.law_walk.proofs.WalkRingAndWaitingTakeLaws.{packet-is}
-use Rattle.law_live.specs.Common.{Agrees, HasLater, Live}
+use Rattle.law_live.specs.Common.{Agrees, HasLater, Live, waiting_at}
 use Rattle.law_terminal.specs.SessionLines.{given}
 use Rattle.law_terminal.proofs.ArrivedCellAndRowLaws.{given-whole}
 use Rattle.law_terminal.proofs.ContainerPayloadLaws.{containers-size}
@@ -491,6 +491,13 @@ module _ (config : Config) (live : Live) (windows windows' : List (List Window))
         ap (λ source. source.table)
         (alike-after (scenario_by leg) (session_of leg) (scenario_by other-legs) (session_of other-legs) live.passed
         (steps_in (16 * j + 9)) alike-legs (omega (arith, low)))
+
+    pub waiting-same : (t : ℕ) → t ≤ live.passed → waiting_at leg t ≡ waiting_at other-legs t
+    waiting-same t low =
+        ap (λ (stream : Stream). length stream.waiting)
+        (alike-stream (scenario_by leg) (session_of leg) (scenario_by other-legs) (session_of other-legs) t
+        (Alike-sooner (scenario_by leg) (session_of leg) (scenario_by other-legs) (session_of other-legs) t live.passed
+        low alike-legs))
 
     module _ (can : CanWalk leg) (can' : CanWalk other-legs) where
       back-same : (k : ℕ) → 16 * k + 24 ≤ live.passed → back_cell leg k ≡ back_cell other-legs k

@@ -12,10 +12,13 @@ pub use Rattle.law_live.specs.ScriptOfSayings.{config_by, leg_by, leg_said, coun
 pub use Rattle.law_live.specs.LiveAnswers.{Answer, refused_item, step_made, got_at, now_at, next_item, refused_answer}
 pub use Rattle.law_live.specs.LiveAnswers.{item_answers, steps_between, round_answers, pass_answers}
 pub use Rattle.law_live.specs.LiveAnswers.{answers_to, answers, frames_got, items_refused, steps_made, times_told}
-pub use Rattle.law_live.specs.LiveAnswers.{got_at_text, now_text, answer_text, answers_text, unasked}
+pub use Rattle.law_live.specs.LiveAnswers.{got_at_text, now_text, Telling, answer_text, answers_text}
 pub use Rattle.law_live.specs.LiveAnswers.{last_text, report_said}
 unfoldable pub use Rattle.law_live.specs.LiveAnswers.{rounds_answers, answers_from, Rises}
 pub use Rattle.law_live.specs.LiveMembers.{member_code, code_at, MemberTold, told_of, told_among, members_in, member_text}
 pub use Rattle.law_live.specs.LiveMembers.{members_text, members_told, told_by, codes_of}
 unfoldable pub use Rattle.law_live.specs.LiveMembers.{last_code, Differ}
+pub use Rattle.law_live.specs.LiveQueue.{waiting_at, queue_since, queue_text, queue_of, queues_told, Reckoned, accepted_one}
+pub use Rattle.law_live.specs.LiveQueue.{reckoned_to, reckoned}
+unfoldable pub use Rattle.law_live.specs.LiveQueue.{last_number, AreOthers, reckoned_from}
 pub use Rattle.law_live.specs.Agrees.{IsSameBelow, HasLater, Agrees}

@@ -4,6 +4,7 @@ pub mod LiveCounts
 pub mod ScriptOfSayings
 pub mod LiveAnswers
 pub mod LiveMembers
+pub mod LiveQueue
 pub mod Agrees
 pub mod WorkedSayings
 pub mod Common

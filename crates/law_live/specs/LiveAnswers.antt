@@ -13,12 +13,13 @@ use Rattle.law_walk.specs.DeliveredFrames.{delivered_since}
 use Rattle.law_live.specs.LiveSayings.{Saying, lands, cuts, mends, passes, item_at}
 use Rattle.law_live.specs.LiveCounts.{live_round, rounds_for, counts_said, live_counts}
 
--- an item, by its number, is refused; a decision step is made; in a tick a frame comes out; so many ticks have passed
+-- an item, by its number, is refused; a decision step is made; in a tick a frame comes out; behind a pass so many ticks have
+-- passed, and before it as many as the first number says
 pub data Answer : Type 0 where
   refused_item : ℕ → Refusal → Answer
   step_made : ℕ → Answer
   got_at : ℕ → List ℕ → Answer
-  now_at : ℕ → Answer
+  now_at : ℕ → ℕ → Answer
 
 -- ---- an item
 -- the one that is said after these counts: all before it have landed
@@ -49,7 +50,8 @@ rounds_answers (suc n) leg s =
 
 abbrev pub pass_answers : Leg → Counts → ℕ → List Answer
 pass_answers leg s k =
-    rounds_answers (rounds_for k (walk_plan leg) s) leg s ++ now_at (counts_said (walk_plan leg) s (passes k)).ticks ∷ []
+    rounds_answers (rounds_for k (walk_plan leg) s) leg s
+    ++ now_at s.ticks (counts_said (walk_plan leg) s (passes k)).ticks ∷ []
 
 -- ---- one saying after another
 abbrev pub answers_to : Leg → Counts → Saying → List Answer
@@ -71,25 +73,25 @@ abbrev pub got_of : Answer → List (List ℕ)
 got_of (refused_item number why) = []
 got_of (step_made j) = []
 got_of (got_at ticks frame) = frame ∷ []
-got_of (now_at ticks) = []
+got_of (now_at was ticks) = []
 
 abbrev pub refusal_of : Answer → List (ℕ × Refusal)
 refusal_of (refused_item number why) = (number, why) ∷ []
 refusal_of (step_made j) = []
 refusal_of (got_at ticks frame) = []
-refusal_of (now_at ticks) = []
+refusal_of (now_at was ticks) = []
 
 abbrev pub step_of : Answer → List ℕ
 step_of (refused_item number why) = []
 step_of (step_made j) = j ∷ []
 step_of (got_at ticks frame) = []
-step_of (now_at ticks) = []
+step_of (now_at was ticks) = []
 
 abbrev pub time_of : Answer → List ℕ
 time_of (refused_item number why) = []
 time_of (step_made j) = (16 * j + 9) ∷ []
 time_of (got_at ticks frame) = ticks ∷ []
-time_of (now_at ticks) = ticks ∷ []
+time_of (now_at was ticks) = ticks ∷ []
 
 -- the frames that came out, the items that were refused, the decision steps, and the ticks that were made by then
 abbrev pub frames_got : List Answer → List (List ℕ)
@@ -116,18 +118,19 @@ got_at_text ticks frame = codes "got " ++ decimal ticks ++ codes " " ++ encode_l
 abbrev pub now_text : ℕ → List ℕ
 now_text ticks = codes "now " ++ decimal ticks ++ codes "\n"
 
--- where a decision step has this text, and none if they aren't asked
-abbrev pub answer_text : (ℕ → List ℕ) → Answer → List ℕ
-answer_text step (refused_item number why) = refused_text number why
-answer_text step (step_made j) = step j
-answer_text step (got_at ticks frame) = got_at_text ticks frame
-answer_text step (now_at ticks) = now_text ticks
+-- what is told of a decision step, and of a pass, by the ticks before and behind it
+pub record Telling : Type 0 where
+  pub step : ℕ → List ℕ
+  pub pass : ℕ → ℕ → List ℕ
 
-abbrev pub answers_text : (ℕ → List ℕ) → List Answer → List ℕ
-answers_text step told = flat_map (answer_text step) told
+abbrev pub answer_text : Telling → Answer → List ℕ
+answer_text tells (refused_item number why) = refused_text number why
+answer_text tells (step_made j) = tells.step j
+answer_text tells (got_at ticks frame) = got_at_text ticks frame
+answer_text tells (now_at was ticks) = tells.pass was ticks ++ now_text ticks
 
-abbrev pub unasked : ℕ → List ℕ
-unasked j = []
+abbrev pub answers_text : Telling → List Answer → List ℕ
+answers_text tells told = flat_map (answer_text tells) told
 
 -- ---- at the end
 -- the line of totals

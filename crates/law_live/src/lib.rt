@@ -3,8 +3,8 @@
 //! and the answers, and the script of it all. There is no code here, and no language that says it. Begin at
 //! `script_law`, by which a walk of the script makes the same counts and writes the same frames; `said_law` is
 //! about what may be said, `pass_law` and `turn_law` about time, `answer_law` and `grow_law` about what is
-//! answered, and `member_law` about what it tells of the lines; `agree_law` about the legs of which all that is said,
-//! whatever is said later, and `later_law` about what these have in common.
+//! answered, `member_law` about what it tells of the lines, and `queue_law` of the queue; `agree_law` about the legs of
+//! which all that is said, whatever is said later, and `later_law` about what these have in common.
 #![tactic(auto)]
 
 mod answers_that_grow;
@@ -15,6 +15,7 @@ mod what_comes_later;
 mod what_is_answered;
 mod what_is_said;
 mod what_members_are_told;
+mod what_queues_tell;
 mod worked_conversations;
 
 pub use answers_that_grow::grow_law;
@@ -25,4 +26,5 @@ pub use what_comes_later::later_law;
 pub use what_is_answered::answer_law;
 pub use what_is_said::said_law;
 pub use what_members_are_told::member_law;
+pub use what_queues_tell::queue_law;
 pub use worked_conversations::worked_law;

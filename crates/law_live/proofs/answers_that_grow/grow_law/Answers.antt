@@ -14,4 +14,4 @@ pub returns-clause-rounds : goal.returns-clause-rounds
 returns-clause-rounds c = λ leg said more. rounds-more (walk_plan leg) (begin (walk_plan leg)) said more
 
 pub returns-clause-text : goal.returns-clause-text
-returns-clause-text c = λ leg said more step. text-more leg (begin (walk_plan leg)) said more step
+returns-clause-text c = λ leg said more tells. text-more leg (begin (walk_plan leg)) said more tells

@@ -21,3 +21,7 @@ returns-clause-cells c = λ config said j leg other sound sound' well agrees agr
 pub returns-clause-tables : goal.returns-clause-tables
 returns-clause-tables c = λ config said j leg other sound sound' well agrees agrees'.
     (later config said leg other sound sound' well agrees agrees').tables j
+
+pub returns-clause-waiting : goal.returns-clause-waiting
+returns-clause-waiting c = λ config said t leg other sound sound' well agrees agrees'.
+    (later config said leg other sound sound' well agrees agrees').waiting t
