@@ -1,20 +1,26 @@
 -- What the lines of members tell (members_told): each code of a line is another one than the one before, and the last one
 -- says how the line stands, behind each decision step.
-use Rattle.std.proofs.Common.{◌≡◌, ℕ, zero, suc, ◌+◌, ◌-◌, ◌*◌, ◌<◌, ◌≤◌, ◌==◌, ◌⊎◌, flat_map, true≢false, nat_le, Bool, true, false, inl, inr, List}
+use Rattle.std.proofs.Common.{◌≡◌, ℕ, zero, suc, ◌+◌, ◌-◌, ◌*◌, ◌<◌, ◌≤◌, ◌==◌, ◌⊎◌, flat_map, true≢false}
+use Rattle.std.proofs.Common.{nat_le, Bool, true, false, inl, inr, List}
 use Rattle.std.proofs.Common.{[], ◌∷◌, ◌++◌, filter, map, refl, sym, ◌∙◌, ap, ap₂, subst, arith, append-nil, codes, All}
-use Rattle.std.proofs.Common.{if◌then◌else◌}
-use Rattle.std.specs.List.{range_with_len}
+use Rattle.std.proofs.Common.{if◌then◌else◌, Option, Some, None}
+use Rattle.std.specs.List.{list_any, range_with_len}
 use Rattle.std.specs.Str.{bytes_eq}
+use Rattle.std.proofs.Math.Path.{fun_ext}
 use Rattle.std.proofs.lemmas.Bool.{cases_Bool, eqb-false, eqb-true, eq-eqb, le-leb, leb-false}
 use Rattle.std.proofs.lemmas.Grind.{flat_map-append}
 use Rattle.std.proofs.lemmas.List.{map-append}
 use Rattle.std.proofs.lemmas.List.Elements.{All-append, All-cons, All-head, All-nil, All-tail, All-weaker, filter-append}
 use Rattle.std.proofs.lemmas.Slice.Eq.{bytes_eq-Decides}
 use Rattle.law_model.proofs.ListLaws.{range-more}
-use Rattle.law_model.specs.Common.{Leg, after, scenario_by, state_in, state_of, steps_in}
-use Rattle.law_walk.specs.Common.{session_of}
+use Rattle.law_model.specs.declared.lcas_states.Member.{Member}
+use Rattle.law_model.specs.declared.lcas_states.Standing.{Standing}
+use Rattle.law_model.specs.declared.lcas_states.Standing.TheVariants.{Add as adding, Norm as normal, Dnu as unused}
+use Rattle.law_model.specs.Common.{Leg, Table, after, ctrl_by, is_normal, place_in, scenario_by, state_by, state_in, state_of}
+use Rattle.law_model.specs.Common.{steps_in}
+use Rattle.law_walk.specs.Common.{session_of, table_in}
 use Rattle.law_live.specs.Common.{Differ, MemberTold, Saying, answers, code_at, codes_of, last_code, live_counts}
-use Rattle.law_live.specs.Common.{member_code, members_in, members_told, told_among, told_by, told_of}
+use Rattle.law_live.specs.Common.{code_after, plain_code, member_code, members_in, members_told, told_among, told_by, told_of}
 use Rattle.law_live.proofs.AgreeingLegConversationLaws.{answers-steps}
 
 -- ---- codes one behind the other
@@ -143,6 +149,40 @@ code-steps leg a b m same =
 code-first : (leg : Leg) (m : ℕ) → code_at leg 0 m ≡ codes "idle"
 unfolding after state_in
 code-first leg m = refl
+
+-- ---- beside the control words of packets
+plain-same : (standing : Standing) (more : Bool) → member_code (state_by standing) ≡ plain_code (ctrl_by standing more)
+plain-same adding more = refl
+plain-same normal true = refl
+plain-same normal false = refl
+plain-same unused more = refl
+
+placed-same : (order : List Member) (leaving : Option ℕ) (sq m : ℕ) →
+    member_code (state_in order leaving m) ≡ plain_code (place_in order sq m).ctrl
+unfolding state_in place_in
+placed-same [] None sq m = refl
+placed-same [] (Some line) sq m = elim (cases_Bool (line == m)) [ inl e ↦ rw e refl | inr e ↦ rw e refl ]
+placed-same (member ∷ order) leaving sq m = elim (cases_Bool (member.line == m)) [
+  | inl e ↦ rw e (plain-same member.standing (list_any is_normal order))
+  | inr e ↦ rw e (placed-same order leaving (sq + 1) m)
+]
+
+code-made : (leg : Leg) (j m : ℕ) → code_at leg (16 * j + 9) m ≡ code_after leg (suc j) m
+unfolding code_after
+code-made leg j m =
+    let table : Table = table_in leg (16 * j + 9) in placed-same table.order table.leaving 0 m
+
+code-found : (leg : Leg) (j m : ℕ) → code_at leg (16 * j + 8) m ≡ code_after leg j m
+unfolding code_after
+code-found leg zero m = code-steps leg 8 0 m (omega arith) ∙ code-first leg m
+code-found leg (suc j) m =
+    code-steps leg (16 * suc j + 8) (16 * j + 9) m (omega arith) ∙ code-made leg j m
+
+pub step-trace : (leg : Leg) (j : ℕ) →
+    members_in leg j ≡ told_among (16 * j + 9) (code_after leg j) (code_after leg (suc j)) leg.config.lines
+step-trace leg j =
+    ap₂ (λ was now. told_among (16 * j + 9) was now leg.config.lines) (fun_ext (code-found leg j))
+    (fun_ext (code-made leg j))
 
 -- ---- what the first steps tell
 abbrev upto : Leg → ℕ → List MemberTold

@@ -16,8 +16,8 @@ pub use Rattle.law_live.specs.LiveAnswers.{got_at_text, now_text, Telling, answe
 pub use Rattle.law_live.specs.LiveAnswers.{last_text, report_said}
 unfoldable pub use Rattle.law_live.specs.LiveAnswers.{rounds_answers, answers_from, Rises}
 pub use Rattle.law_live.specs.LiveMembers.{member_code, code_at, MemberTold, told_of, told_among, members_in, member_text}
-pub use Rattle.law_live.specs.LiveMembers.{members_text, members_told, told_by, codes_of}
-unfoldable pub use Rattle.law_live.specs.LiveMembers.{last_code, Differ}
+pub use Rattle.law_live.specs.LiveMembers.{members_text, members_told, told_by, codes_of, plain_code}
+unfoldable pub use Rattle.law_live.specs.LiveMembers.{last_code, Differ, code_after}
 pub use Rattle.law_live.specs.LiveQueue.{waiting_at, queue_since, queue_text, queue_of, queues_told, Reckoned, accepted_one}
 pub use Rattle.law_live.specs.LiveQueue.{reckoned_to, reckoned}
 unfoldable pub use Rattle.law_live.specs.LiveQueue.{last_number, AreOthers, reckoned_from}

@@ -1,10 +1,11 @@
 -- What became of the lines of a group, told once where it happens: in a decision step each line whose code is another one
 -- than before. Which line in use is the last, and that a removal is acknowledged, is no news. The text is this project's
 -- own.
-use Rattle.std.specs.Prelude.{◌≢◌, ℕ, ◌+◌, ◌*◌, ◌==◌, nat_le, List, [], ◌∷◌, ◌++◌, map, filter, flat_map}
+use Rattle.std.specs.Prelude.{◌≢◌, ℕ, zero, suc, ◌+◌, ◌*◌, ◌==◌, nat_le, List, [], ◌∷◌, ◌++◌, map, filter, flat_map}
 use Rattle.std.specs.Prelude.{bytes_eq, codes, decimal, if◌then◌else◌}
 use Rattle.std.specs.List.{range_with_len}
-use Rattle.law_model.specs.Common.{Leg, state_of}
+use Rattle.member_cells.specs.declared.control_word.Ctrl.{Ctrl}
+use Rattle.law_model.specs.Common.{Leg, ctrl_text, place_in, state_of}
 use Rattle.law_model.specs.declared.lcas_states.SourceState.{SourceState}
 use Rattle.law_model.specs.declared.lcas_states.SourceState.TheVariants.{Idle, Add, Norm, Dnu, Remove}
 use Rattle.law_walk.specs.Common.{table_in}
@@ -41,6 +42,16 @@ told_among ticks was now lines = flat_map (λ m. told_of ticks m (was m) (now m)
 -- step j is made in the tick behind 16 j + 8 others
 abbrev pub members_in : Leg → ℕ → List MemberTold
 members_in leg j = told_among (16 * j + 9) (code_at leg (16 * j + 8)) (code_at leg (16 * j + 9)) leg.config.lines
+
+-- ---- beside the line of each decision step, in which the packet of each line has a control word
+-- EOS is told as NORM
+abbrev pub plain_code : Ctrl → List ℕ
+plain_code ctrl = if bytes_eq (ctrl_text ctrl) (codes "eos") then codes "norm" else ctrl_text ctrl
+
+-- of a line in the last of so many steps, and `idle` before the first
+unfoldable pub code_after : Leg → ℕ → ℕ → List ℕ
+code_after leg zero m = codes "idle"
+code_after leg (suc j) m = plain_code (place_in (table_in leg (16 * j + 9)).order 0 m).ctrl
 
 -- ---- their lines
 abbrev pub member_text : MemberTold → List ℕ

@@ -1,9 +1,12 @@
 -- By decision steps.
-use Rattle.law_live.proofs.ToldMemberLaws.{step-ticks, told-differ, told-last, told-step}
+use Rattle.law_live.proofs.ToldMemberLaws.{step-ticks, step-trace, told-differ, told-last, told-step}
 use Rattle.law_live.proofs.what_members_are_told.member_law.Goals as goal
 
 pub returns-clause-times : goal.returns-clause-times
 returns-clause-times c = step-ticks
+
+pub returns-clause-trace : goal.returns-clause-trace
+returns-clause-trace c = step-trace
 
 pub returns-clause-differ : goal.returns-clause-differ
 returns-clause-differ c = told-differ
