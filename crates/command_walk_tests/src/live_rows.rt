@@ -55,6 +55,38 @@ fn traced_rows() -> &'static str {
         total ticks 73 taken 73 frames 1 commands 2 refused 0 got 1|;"
 }
 
+/// What becomes of members: each once it is another thing, before the frames of its round, whichever of them is the
+/// last one in use. Some that come and go; a command that waits for its step; and a line that is cut.
+fn member_rows() -> &'static str {
+    "\
+    live told;lines 1|delays 0|ring 1|lag 1|ticks 1000|add 0|pass 40|frame aa*64|pass 1|pass 1| => 0;\
+        member 9 0 add|member 25 0 norm|now 40|got 41 aa*64|now 41|now 42|\
+        total ticks 42 taken 42 frames 1 commands 1 refused 0 got 1|;\n\
+    live told;lines 2|delays 0 0|ring 1|lag 2|ticks 1000|add 0|add 1|pass 100|remove 1|pass 100|add 1|remove 0|\
+        pass 100| => 0;member 9 0 add|member 41 0 norm|member 41 1 add|now 100|member 105 1 idle|now 200|\
+        member 201 1 add|member 233 0 idle|member 297 1 norm|now 300|\
+        total ticks 300 taken 300 frames 0 commands 5 refused 0 got 0|;\n\
+    live told;lines 2|delays 0 0|ring 1|lag 2|ticks 1000|add 0|pass 56|frame aa*64|add 1|pass 1|pass 16| => 0;\
+        member 9 0 add|member 41 0 norm|now 56|member 57 1 add|got 57 aa*64|now 57|now 73|\
+        total ticks 73 taken 73 frames 1 commands 2 refused 0 got 1|;\n\
+    live told;lines 2|delays 0 0|ring 1|lag 1|ticks 4000|add 0|add 1|pass 1000|cut 1|pass 400|mend 1|pass 400| => 0;\
+        member 9 0 add|member 25 0 norm|member 25 1 add|member 281 1 norm|now 1000|member 1049 1 dnu|now 1400|\
+        member 1561 1 norm|now 1800|total ticks 1800 taken 1800 frames 0 commands 2 refused 0 got 0|;"
+}
+
+/// How many frames wait: behind a pass that changed it, with the frames that were said before it. One that is sent in
+/// part doesn't wait, and a frame that is refused doesn't either.
+fn waiting_rows() -> &'static str {
+    "\
+    live told;lines 1|delays 0|ring 1|lag 1|ticks 1000|frame aa*64|frame bb*64|pass 1|pass 1|frame cc*64|pass 1|add 0|\
+        pass 60| => 0;queue 2|now 1|now 2|queue 3|now 3|member 9 0 add|member 25 0 norm|got 41 aa*64|got 41 bb*64|\
+        got 41 cc*64|queue 0|now 63|total ticks 63 taken 63 frames 3 commands 1 refused 0 got 3|;\n\
+    live told;lines 1|delays 0|ring 1|lag 1|ticks 1000|add 0|@257 frame 00*64|pass 41|frame 00*64|pass 1|pass 3| => 0;\
+        refused 257 queue|member 9 0 add|member 25 0 norm|@32 got 41 00*64|queue 223|now 41|@32 got 42 00*64|\
+        queue 192|now 42|@33 got 43 00*64|@32 got 44 00*64|@33 got 45 00*64|queue 94|now 45|\
+        total ticks 45 taken 45 frames 257 commands 1 refused 1 got 162|;"
+}
+
 /// The first faulty line, behind the answers to those before it; and slips that don't fit, at the first live line or
 /// at the end.
 fn faulty_rows() -> &'static str {
@@ -151,6 +183,8 @@ fn conversations(rt: HostRuntime) {
         (Turns::Pieces, "", cut_rows()),
         (Turns::Pieces, "", refused_rows()),
         (Turns::Pieces, "", traced_rows()),
+        (Turns::Pieces, "", member_rows()),
+        (Turns::Pieces, "", waiting_rows()),
         (Turns::Pieces, "", faulty_rows()),
         (Turns::Pieces, "", queue_row()),
     ];

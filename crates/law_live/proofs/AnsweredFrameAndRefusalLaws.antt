@@ -19,7 +19,7 @@ use Rattle.law_walk.specs.Common.{refused_by, walk_plan}
 use Rattle.law_walk.proofs.DeliveredFrameCountLaws.{frames-grow}
 use Rattle.law_live.specs.Common.{CanSayAll, HasLater, Live, Rises, Saying, after_rounds, answers_from, answers_to}
 use Rattle.law_live.specs.Common.{counts_from, counts_said, cuts, frames_got, got_at, item_answers, item_at}
-use Rattle.law_live.specs.Common.{items_refused, lands, live_after, live_round, mends, next_item, now_at, passes}
+use Rattle.law_live.specs.Common.{items_refused, lands, live_after, live_round, mends, next_item, pass_ends, passes}
 use Rattle.law_live.specs.Common.{step_made, live_from, refused_answer, round_answers, rounds_answers, rounds_for}
 use Rattle.law_live.specs.Common.{steps_between, steps_made, times_told}
 use Rattle.law_walk.specs.DeliveredFrames.{delivered_since}
@@ -131,7 +131,7 @@ got-to leg s (passes k) =
     let n : ℕ = rounds_for k (walk_plan leg) s in
     let now : ℕ = (counts_said (walk_plan leg) s (passes k)).ticks in
     ap (λ l. delivered_of leg s.rows ++ l)
-    (flat_map-append got_of (rounds_answers n leg s) (now_at s.ticks now ∷ [])
+    (flat_map-append got_of (rounds_answers n leg s) (pass_ends leg s.ticks now)
     ∙ append-nil (frames_got (rounds_answers n leg s)))
     ∙ got-rounds n leg s
 
@@ -208,7 +208,7 @@ refused-to leg live s (passes k) stands =
     let n : ℕ = rounds_for k (walk_plan leg) s in
     let now : ℕ = (counts_said (walk_plan leg) s (passes k)).ticks in
     ap (λ l. refusals_among leg (numbered 0 live.items) ++ l)
-    (flat_map-append refusal_of (rounds_answers n leg s) (now_at s.ticks now ∷ [])
+    (flat_map-append refusal_of (rounds_answers n leg s) (pass_ends leg s.ticks now)
     ∙ append-nil (items_refused (rounds_answers n leg s)) ∙ refused-rounds n leg s)
     ∙ append-nil (refusals_among leg (numbered 0 live.items))
 
@@ -303,7 +303,7 @@ times-to leg s (mends m) = omega arith
 times-to leg s (passes k) =
     let n : ℕ = rounds_for k (walk_plan leg) s in
     let now : ℕ = (counts_said (walk_plan leg) s (passes k)).ticks in
-    subst (Rises s.ticks now) (sym (flat_map-append time_of (rounds_answers n leg s) (now_at s.ticks now ∷ [])))
+    subst (Rises s.ticks now) (sym (flat_map-append time_of (rounds_answers n leg s) (pass_ends leg s.ticks now)))
     (rises-append s.ticks now now (times_told (rounds_answers n leg s)) (now ∷ []) (times-rounds n leg s)
     (omega arith, omega arith))
 
@@ -371,7 +371,7 @@ steps-of leg s (passes k) =
     let n : ℕ = rounds_for k (walk_plan leg) s in
     let now : ℕ = (counts_said (walk_plan leg) s (passes k)).ticks in
     ap (λ l. steps_to s.ticks ++ l)
-    (flat_map-append step_of (rounds_answers n leg s) (now_at s.ticks now ∷ [])
+    (flat_map-append step_of (rounds_answers n leg s) (pass_ends leg s.ticks now)
     ∙ append-nil (steps_made (rounds_answers n leg s)))
     ∙ steps-rounds n leg s
 

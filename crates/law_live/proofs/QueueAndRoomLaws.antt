@@ -2,10 +2,11 @@
 use Rattle.std.proofs.Common.{◌≡◌, ℕ, zero, suc, ◌+◌, ◌<◌, ◌≤◌, ◌==◌, ◌||◌, nat_le, nat_lt, true, false, inl, inr, List}
 use Rattle.std.proofs.Common.{[], ◌∷◌, ◌++◌, map, filter, fold, length, if◌then◌else◌, Option, Some, None, option_map}
 use Rattle.std.proofs.Common.{refl, sym, ◌∙◌, ap, ap₂, subst, arith, append-nil, length-append, All, leb-false}
+use Rattle.std.proofs.Math.Seq.{take-append_seam}
 use Rattle.std.proofs.lemmas.Bool.{cases_Bool, eqb-false, eqb-true}
 use Rattle.std.proofs.lemmas.Bool.Decides.{nat_tests}
 use Rattle.std.proofs.lemmas.Grind.{flat_map-append}
-use Rattle.std.proofs.lemmas.List.{map-append}
+use Rattle.std.proofs.lemmas.List.{length-map, map-append}
 use Rattle.std.proofs.lemmas.List.Elements.{All-head, All-tail, filter-append}
 use Rattle.std.proofs.lemmas.List.Sums.{fold-append}
 use Rattle.law_model.specs.Common.{Counts, DueFrame, IsSound, Leg, Piece, Scenario, Stream, Told, begin, comes_at}
@@ -25,15 +26,17 @@ use Rattle.law_progress.proofs.RoundProgressAndDrainLaws.{begin-fits}
 use Rattle.law_session.proofs.ClientStreamAndReplayLaws.{stream_before-frames}
 use Rattle.law_walk.specs.Common.{kind_refusal, refusal_at, session_of, stream_met, walk_plan}
 use Rattle.law_walk.specs.DeliveredFrames.{delivered_since}
+use Rattle.law_walk.proofs.LandedItemRefusalAndTotalLaws.{frame-dues}
 use Rattle.law_walk.proofs.WalkPlanAndPoppedCellLaws.{has-plan, sound-walks}
 use Rattle.law_live.specs.Common.{Agrees, AreOthers, CanSay, CanSayAll, HasLater, IsWellSaid, Live, Reckoned, Saying}
-use Rattle.law_live.specs.Common.{accepted_one, answers, answers_from, answers_to, counts_from, counts_said, cuts, got_at}
-use Rattle.law_live.specs.Common.{item_answers, item_at, lands, last_number, live_after, live_counts, live_from, live_of}
-use Rattle.law_live.specs.Common.{live_round, mends, next_item, now_at, opened, passes, queue_of, queue_since, queues_told}
+use Rattle.law_live.specs.Common.{accepted_one, answers, answers_from, answers_to, changed_number, counts_from, counts_said, cuts}
+use Rattle.law_live.specs.Common.{got_at, item_answers, item_at, lands, last_number, live_after, live_counts, live_from, live_of}
+use Rattle.law_live.specs.Common.{live_round, mends, next_item, opened, pass_ends, passes, queue_of, queues_told}
 use Rattle.law_live.specs.Common.{reckoned, reckoned_from, reckoned_to, refused_answer, refused_item, round_answers}
 use Rattle.law_live.specs.Common.{rounds_answers, rounds_for, steps_between, waiting_at}
-use Rattle.law_live.proofs.AgreeingLegConversationLaws.{agrees-before, agrees-number, agrees-stands, can-leg}
-use Rattle.law_live.proofs.AgreeingLegConversationLaws.{well-front}
+use Rattle.law_live.specs.LiveSayings.{frames_in as frames_in_live}
+use Rattle.law_live.proofs.AgreeingLegConversationLaws.{agrees-before, agrees-number, agrees-stands, can-back, can-leg}
+use Rattle.law_live.proofs.AgreeingLegConversationLaws.{live-more, well-front}
 use Rattle.law_live.proofs.AnsweredFrameAndRefusalLaws.{lands-ticks}
 use Rattle.law_live.proofs.ConversationCountAndScriptLaws.{Stands, fits-after, later-all, later-less, stands-after}
 use Rattle.law_live.proofs.ConversationCountAndScriptLaws.{stands-begun}
@@ -98,7 +101,7 @@ queue-waits leg ticks =
     let parts = length-append (frames_in stream.pieces) stream.waiting in
     omega (arith, all, parts)
 
-none-wait : (leg : Leg) → waiting_at leg 0 ≡ 0
+pub none-wait : (leg : Leg) → waiting_at leg 0 ≡ 0
 unfolding stream_before
 none-wait leg = refl
 
@@ -123,7 +126,7 @@ unfolding AreOthers last_number
 tells-none leg was now queues none same =
     subst (Tells leg was now) (sym none) (record { others = tt; last = ap (waiting_at leg) same })
 
-tells-since : (leg : Leg) (was now : ℕ) → Tells leg was now (queue_since leg was now)
+tells-since : (leg : Leg) (was now : ℕ) → Tells leg was now (changed_number (waiting_at leg was) (waiting_at leg now))
 unfolding AreOthers last_number
 tells-since leg was now = elim (cases_Bool (waiting_at leg now == waiting_at leg was)) [
   | inl e ↦ rw e (record { others = tt; last = sym (eqb-true (waiting_at leg now) (waiting_at leg was) e) })
@@ -138,65 +141,65 @@ tells-more leg a b c xs ys first second = record {
 }
 
 -- ---- what is answered to a saying
-queues-step : (leg : Leg) (was now : ℕ) → queues_told leg (steps_between was now) ≡ []
-queues-step leg was now = elim (cases_Bool (nat_lt (steps_in was) (steps_in now))) [ inl e ↦ rw e refl | inr e ↦ rw e refl ]
+queues-step : (was now : ℕ) → queues_told (steps_between was now) ≡ []
+queues-step was now = elim (cases_Bool (nat_lt (steps_in was) (steps_in now))) [ inl e ↦ rw e refl | inr e ↦ rw e refl ]
 
-queues-frames : (leg : Leg) (ticks : ℕ) (frames : List (List ℕ)) → queues_told leg (map (got_at ticks) frames) ≡ []
-queues-frames leg ticks [] = refl
-queues-frames leg ticks (frame ∷ frames) = queues-frames leg ticks frames
+queues-frames : (ticks : ℕ) (frames : List (List ℕ)) → queues_told (map (got_at ticks) frames) ≡ []
+queues-frames ticks [] = refl
+queues-frames ticks (frame ∷ frames) = queues-frames ticks frames
 
-queues-rounds : (n : ℕ) (leg : Leg) (s : Counts) → queues_told leg (rounds_answers n leg s) ≡ []
+queues-rounds : (n : ℕ) (leg : Leg) (s : Counts) → queues_told (rounds_answers n leg s) ≡ []
 unfolding rounds_answers
 queues-rounds zero leg s = refl
 queues-rounds (suc n) leg s =
     let next : Counts = live_round (walk_plan leg) s in
     let frames : List (List ℕ) = delivered_since leg s.rows next.rows in
-    flat_map-append (queue_of leg) (round_answers leg s next) (rounds_answers n leg next)
+    flat_map-append queue_of (round_answers leg s next) (rounds_answers n leg next)
     ∙ ap₂ ◌++◌
-    (flat_map-append (queue_of leg) (steps_between s.ticks next.ticks) (map (got_at next.ticks) frames)
-    ∙ ap₂ ◌++◌ (queues-step leg s.ticks next.ticks) (queues-frames leg next.ticks frames))
+    (flat_map-append queue_of (steps_between s.ticks next.ticks) (map (got_at next.ticks) frames)
+    ∙ ap₂ ◌++◌ (queues-step s.ticks next.ticks) (queues-frames next.ticks frames))
     (queues-rounds n leg next)
 
-queues-refused : (leg : Leg) (number : ℕ) (why : Option Refusal) → queues_told leg (refused_answer number why) ≡ []
-queues-refused leg number None = refl
-queues-refused leg number (Some why) = refl
+queues-refused : (number : ℕ) (why : Option Refusal) → queues_told (refused_answer number why) ≡ []
+queues-refused number None = refl
+queues-refused number (Some why) = refl
 
 tells-to : (leg : Leg) (s : Counts) (saying : Saying) →
-    Tells leg s.ticks (counts_said (walk_plan leg) s saying).ticks (queues_told leg (answers_to leg s saying))
+    Tells leg s.ticks (counts_said (walk_plan leg) s saying).ticks (queues_told (answers_to leg s saying))
 tells-to leg s (lands kind) =
-    tells-none leg s.ticks (counts_said (walk_plan leg) s (lands kind)).ticks (queues_told leg (item_answers leg s kind))
-    (queues-refused leg (s.frames + s.commands) (refusal_at leg (next_item s kind))) (sym (lands-ticks (walk_plan leg) s kind))
+    tells-none leg s.ticks (counts_said (walk_plan leg) s (lands kind)).ticks (queues_told (item_answers leg s kind))
+    (queues-refused (s.frames + s.commands) (refusal_at leg (next_item s kind))) (sym (lands-ticks (walk_plan leg) s kind))
 tells-to leg s (cuts m) = tells-none leg s.ticks s.ticks [] refl refl
 tells-to leg s (mends m) = tells-none leg s.ticks s.ticks [] refl refl
 tells-to leg s (passes k) =
     let rounds = rounds_answers (rounds_for k (walk_plan leg) s) leg s in
     let now : ℕ = (counts_said (walk_plan leg) s (passes k)).ticks in
     subst (Tells leg s.ticks now)
-    (sym (flat_map-append (queue_of leg) rounds (now_at s.ticks now ∷ [])
-    ∙ ap₂ ◌++◌ (queues-rounds (rounds_for k (walk_plan leg) s) leg s) (append-nil (queue_since leg s.ticks now))))
+    (sym (flat_map-append queue_of rounds (pass_ends leg s.ticks now)
+    ∙ ap₂ ◌++◌ (queues-rounds (rounds_for k (walk_plan leg) s) leg s) (append-nil (changed_number (waiting_at leg s.ticks) (waiting_at leg now)))))
     (tells-since leg s.ticks now)
 
 tells-all : (said : List Saying) (leg : Leg) (s : Counts) →
-    Tells leg s.ticks (counts_from (walk_plan leg) s said).ticks (queues_told leg (answers_from leg s said))
+    Tells leg s.ticks (counts_from (walk_plan leg) s said).ticks (queues_told (answers_from leg s said))
 unfolding answers_from counts_from
 tells-all [] leg s = tells-none leg s.ticks s.ticks [] refl refl
 tells-all (saying ∷ said) leg s =
     let next : Counts = counts_said (walk_plan leg) s saying in
     subst (Tells leg s.ticks (counts_from (walk_plan leg) next said).ticks)
-    (sym (flat_map-append (queue_of leg) (answers_to leg s saying) (answers_from leg next said)))
+    (sym (flat_map-append queue_of (answers_to leg s saying) (answers_from leg next said)))
     (tells-more leg s.ticks next.ticks (counts_from (walk_plan leg) next said).ticks
-    (queues_told leg (answers_to leg s saying)) (queues_told leg (answers_from leg next said)) (tells-to leg s saying)
+    (queues_told (answers_to leg s saying)) (queues_told (answers_from leg next said)) (tells-to leg s saying)
     (tells-all said leg next))
 
-pub queues-differ : (leg : Leg) (said : List Saying) → AreOthers 0 (queues_told leg (answers leg said))
+pub queues-differ : (leg : Leg) (said : List Saying) → AreOthers 0 (queues_told (answers leg said))
 queues-differ leg said =
-    subst (λ n. AreOthers n (queues_told leg (answers leg said))) (none-wait leg)
+    subst (λ n. AreOthers n (queues_told (answers leg said))) (none-wait leg)
     (tells-all said leg (begin (walk_plan leg))).others
 
 pub queues-last : (leg : Leg) (said : List Saying) →
-    last_number 0 (queues_told leg (answers leg said)) ≡ waiting_at leg (live_counts leg said).ticks
+    last_number 0 (queues_told (answers leg said)) ≡ waiting_at leg (live_counts leg said).ticks
 queues-last leg said =
-    ap (λ n. last_number n (queues_told leg (answers leg said))) (sym (none-wait leg))
+    ap (λ n. last_number n (queues_told (answers leg said))) (sym (none-wait leg))
     ∙ (tells-all said leg (begin (walk_plan leg))).last
 
 -- ---- how many wait beside those that were said since
@@ -259,7 +262,7 @@ next-refusal leg live s octets stands more =
 reckons-land : (leg : Leg) (live : Live) (s : Counts) (kind : ItemKind) (was : Reckoned) → Stands live s →
     HasLater live leg.items → Reckons leg live s was →
     Reckons leg (live_after live (lands kind)) (counts_said (walk_plan leg) s (lands kind))
-    (reckoned_to leg (lands kind) (item_answers leg s kind) was)
+    (reckoned_to (lands kind) (item_answers leg s kind) was)
 reckons-land leg live s kind was stands more reckons = record {
   queue = reckons.queue ∙ ap (waiting_at leg) (sym (lands-ticks (walk_plan leg) s kind));
   sum = ap (λ (stream : Stream). length stream.waiting) (met-land leg live kind) ∙ by kind;
@@ -298,10 +301,10 @@ past-offers n t (item ∷ items) low past =
 reckons-pass : (leg : Leg) (live : Live) (s : Counts) (k : ℕ) (was : Reckoned) → 1 ≤ k → Stands live s →
     Stands (live_after live (passes k)) (counts_said (walk_plan leg) s (passes k)) → Reckons leg live s was →
     Reckons leg (live_after live (passes k)) (counts_said (walk_plan leg) s (passes k))
-    (reckoned_to leg (passes k) (answers_to leg s (passes k)) was)
+    (reckoned_to (passes k) (answers_to leg s (passes k)) was)
 reckons-pass leg live s k was some stands next reckons =
     let now : ℕ = (counts_said (walk_plan leg) s (passes k)).ticks in
-    let told : List ℕ = queues_told leg (answers_to leg s (passes k)) in
+    let told : List ℕ = queues_told (answers_to leg s (passes k)) in
     let queue : last_number was.queue told ≡ waiting_at leg now =
     ap (λ n. last_number n told) reckons.queue ∙ (tells-to leg s (passes k)).last in
     let none : met leg (live_after live (passes k)) ≡ stream_before (scenario_by leg) (session_of leg) (live.passed + k) =
@@ -318,7 +321,7 @@ module _ (leg : Leg) (slow fast slip : ℕ) (is : IsPlanOf slow fast slip (walk_
       Stands live s → Stands (live_after live saying) (counts_said (walk_plan leg) s saying) →
       HasLater (live_after live saying) leg.items → Reckons leg live s was →
       Reckons leg (live_after live saying) (counts_said (walk_plan leg) s saying)
-      (reckoned_to leg saying (answers_to leg s saying) was)
+      (reckoned_to saying (answers_to leg s saying) was)
   reckons-to live s (lands kind) was can stands next more reckons =
       reckons-land leg live s kind was stands (later-less live (lands kind) leg.items more) reckons
   reckons-to live s (cuts m) was can stands next more reckons = record { queue = reckons.queue; sum = reckons.sum }
@@ -334,7 +337,7 @@ module _ (leg : Leg) (slow fast slip : ℕ) (is : IsPlanOf slow fast slip (walk_
       let first = later-all said (live_after live saying) leg.items more in
       let next = stands-after leg slow fast slip is live s saying can.0 stands fits first in
       reckons-all said (live_after live saying) (counts_said (walk_plan leg) s saying)
-      (reckoned_to leg saying (answers_to leg s saying) was) can.1 next (fits-after leg slow fast slip is s saying fits) more
+      (reckoned_to saying (answers_to leg s saying) was) can.1 next (fits-after leg slow fast slip is s saying fits) more
       (reckons-to live s saying was can.0 stands next first reckons)
 
 reckons-none : (config : Config) (leg : Leg) →
@@ -414,3 +417,50 @@ module _ (config : Config) (said : List Saying) (octets : List ℕ) (leg : Leg) 
     said-full least most full =
         let sum = (reckons config leg sound said one-less agrees-less).sum in
         next-answer (Some (QueueFull 256)) (refusal-full octets (met leg (live_of config said)) least most (sum ∙ full))
+
+-- ---- a walk that has come to the end of a pass
+module _ (config : Config) (leg : Leg) (sound : IsSound leg) (said : List Saying) (k : ℕ)
+    (well : IsWellSaid config (said ++ passes k ∷ [])) (agrees : Agrees config (live_of config (said ++ passes k ∷ [])) leg)
+  where
+    abbrev passed : Counts
+    passed = live_counts leg (said ++ passes k ∷ [])
+
+    live-passed : live_of config (said ++ passes k ∷ []) ≡ live_after (live_of config said) (passes k)
+    unfolding live_from
+    live-passed = live-more (opened config) said (passes k ∷ [])
+
+    some-pass : 1 ≤ k
+    unfolding CanSayAll
+    some-pass = (can-back config.ticks said (passes k ∷ []) (opened config) well.each).0.some
+
+    -- the frames that have landed are those that were said
+    offers-passed : take passed.frames (offers_of leg.items) ≡ offers_of (live_of config said).items
+    offers-passed =
+        let live : Live = live_of config said in
+        let offer : Item → List DueFrame = λ (item : Item). offer_of item.due item.kind in
+        let stands = agrees-stands config leg sound (said ++ passes k ∷ []) well agrees in
+        let size : passed.frames ≡ length (offers_of live.items) =
+        stands.frames ∙ ap frames_in_live live-passed ∙ ap length (frame-dues live.items)
+        ∙ length-map (offers_of live.items) (λ (offer : DueFrame). offer.due) in
+        ap₂ (λ n items. take n (offers_of items)) size
+        (agrees.items.are ∙ ap (λ (l : Live). l.items ++ agrees.items.later) live-passed)
+        ∙ ap (take (length (offers_of live.items))) (flat_map-append offer live.items agrees.items.later)
+        ∙ take-append_seam (offers_of live.items) (offers_of agrees.items.later)
+
+    pub waits-passed :
+        length (stream_met (scenario_by leg) (session_of leg) passed.ticks (take passed.frames (offers_of leg.items))).waiting
+        ≡ waiting_at leg passed.ticks
+    waits-passed =
+        let live : Live = live_of config said in
+        let t : ℕ = live.passed + k in
+        let stands = agrees-stands config leg sound said (well-front config said (passes k ∷ []) well)
+        (agrees-before config said (passes k ∷ []) leg well.each agrees) in
+        let ticks : passed.ticks ≡ t =
+        (agrees-stands config leg sound (said ++ passes k ∷ []) well agrees).ticks
+        ∙ ap (λ (l : Live). l.passed) live-passed in
+        let some = some-pass in
+        ap₂ (λ n offers. length (stream_met (scenario_by leg) (session_of leg) n offers).waiting) ticks offers-passed
+        ∙ ap (λ offers. length (fold offered (stream_before (scenario_by leg) (session_of leg) t)
+        (map (λ (offer : DueFrame). offer.frame) offers)).waiting)
+        (past-offers live.passed t live.items (omega (arith, some)) stands.due)
+        ∙ ap (waiting_at leg) (sym ticks)

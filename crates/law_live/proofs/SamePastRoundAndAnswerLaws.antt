@@ -17,7 +17,7 @@ use Rattle.law_progress.proofs.RoundProgressAndDrainLaws.{rows-ticks, step-fits,
 use Rattle.law_live.specs.Common.{after_rounds, live_round, rounds_for, rounds_until, Agrees, CanSay, CanSayAll}
 use Rattle.law_live.specs.Common.{HasLater, IsWellSaid, Live, Saying, answers, answers_from, answers_to, counts_from}
 use Rattle.law_live.specs.Common.{counts_said, cuts, got_at, item_answers, lands, live_after, live_counts, live_from}
-use Rattle.law_live.specs.Common.{live_of, mends, now_at, opened, passes, refused_answer, round_answers}
+use Rattle.law_live.specs.Common.{live_of, mends, now_at, opened, pass_ends, passes, queue_at, refused_answer, round_answers}
 use Rattle.law_live.specs.Common.{rounds_answers, rounds_from, rounds_of, rounds_said, steps_between, waiting_at}
 use Rattle.law_live.proofs.LiveRoundAndLandingLaws.{IsSettled, Settled, settled-at, settled-free, enough, fits-round}
 use Rattle.law_live.proofs.LiveRoundAndLandingLaws.{settled-round, goes-back, goes-carry, goes-round, goes-tick}
@@ -390,10 +390,17 @@ module _ (config : Config) (now : Live) (windows windows' : List (List Window)) 
         settles (leg_with config of all) live (s.ticks + k) s stands more.later more.are
         (λ j d inside. let late = more.late j d inside in omega (arith, late, ticks))
 
-    pass-same : (live : Live) (s : Counts) (k : ℕ) → live.passed + k ≤ config.ticks → Stands live s → Fits plan s →
+    ends-same : (was made : ℕ) → was ≤ now.passed → made ≤ now.passed →
+        pass_ends leg was made ≡ pass_ends other-answers was made
+    ends-same was made low most' =
+        ap₂ (λ before behind. queue_at before behind ∷ now_at made ∷ [])
+        (waiting-same config now windows windows' items items' lag most agrees agrees' was low)
+        (waiting-same config now windows windows' items items' lag most agrees agrees' made most')
+
+    pass-same : (live : Live) (s : Counts) (k : ℕ) → CanSay config.ticks live (passes k) → Stands live s → Fits plan s →
         Fits twin-answers s → HasLater (live_after live (passes k)) items → HasLater (live_after live (passes k)) items' →
         live.passed + k ≤ now.passed → SameSaying leg other-answers s (passes k)
-    pass-same live s k left stands fits fits' more more' low =
+    pass-same live s k can stands fits fits' more more' low =
         let ticks = stands.ticks in
         let here = settled live s k windows items stands more in
         let there = settled live s k windows' items' stands more' in
@@ -403,14 +410,20 @@ module _ (config : Config) (now : Live) (windows windows' : List (List Window)) 
         let rounds : rounds_for k plan s ≡ rounds_for k twin-answers s =
         for-same plan twin-answers.items twin-answers.paths now.passed alike plan_is.slow plan_is.fast plan_is.slip plan_is.is
         twin_is.slow twin_is.fast twin_is.slip twin_is.is k live.passed s fits fits' here there (omega (arith, ticks))
-        (omega (arith, ticks, left)) (omega (arith, ticks, low)) in
+        (let left = can.left in omega (arith, ticks, left)) (omega (arith, ticks, low)) in
+        let made = (stands-after leg plan_is.slow plan_is.fast plan_is.slip plan_is.is live s (passes k) can stands fits
+        more).ticks in
         let counts : counts_said plan s (passes k) ≡ counts_said twin-answers s (passes k) =
         after-same plan twin-answers now.passed (rounds_for k plan s) s turns ∙ ap (λ n. after_rounds n twin-answers s) rounds in
+        let last = ap (λ (c : Counts). c.ticks) counts in
         record {
           counts = counts;
           rounds = rounds;
-          answers = ap₂ (λ told (made : Counts). told ++ now_at s.ticks made.ticks ∷ [])
-              (rounds-same (rounds_for k plan s) s turns ∙ ap (λ n. rounds_answers n other-answers s) rounds) counts;
+          answers = ap₂ (λ told (made : Counts). told ++ pass_ends leg s.ticks made.ticks)
+              (rounds-same (rounds_for k plan s) s turns ∙ ap (λ n. rounds_answers n other-answers s) rounds) counts
+              ∙ ap (λ told. rounds_answers (rounds_for k twin-answers s) other-answers s ++ told)
+              (ends-same s.ticks (counts_said twin-answers s (passes k)).ticks (omega (arith, ticks, low))
+              (omega (arith, made, last, low)));
         }
 
     -- ---- sayings
@@ -429,7 +442,7 @@ module _ (config : Config) (now : Live) (windows windows' : List (List Window)) 
     one-same live s (mends m) can stands fits fits' more more' low =
         record { counts = refl; rounds = refl; answers = refl }
     one-same live s (passes k) can stands fits fits' more more' low =
-        pass-same live s k can.left stands fits fits' more more' low
+        pass-same live s k can stands fits fits' more more' low
 
     all-same : (said : List Saying) (live : Live) (s : Counts) → CanSayAll config.ticks live said → Stands live s →
         Fits plan s → Fits twin-answers s → HasLater (live_from live said) items → HasLater (live_from live said) items' →

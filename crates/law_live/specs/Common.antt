@@ -9,8 +9,9 @@ pub use Rattle.law_live.specs.LiveCounts.{live_round, rounds_for, landing_of, ro
 pub use Rattle.law_live.specs.LiveCounts.{rounds_of}
 unfoldable pub use Rattle.law_live.specs.LiveCounts.{after_rounds, rounds_until, counts_from, rounds_from}
 pub use Rattle.law_live.specs.ScriptOfSayings.{config_by, leg_by, leg_said, counted, events_by, script_by, script_said}
-pub use Rattle.law_live.specs.LiveAnswers.{Answer, refused_item, step_made, got_at, now_at, next_item, refused_answer}
-pub use Rattle.law_live.specs.LiveAnswers.{item_answers, steps_between, round_answers, pass_answers}
+pub use Rattle.law_live.specs.LiveAnswers.{Answer, refused_item, step_made, got_at, queue_at, now_at, next_item}
+pub use Rattle.law_live.specs.LiveAnswers.{refused_answer, item_answers, steps_between, round_answers, waiting_at}
+pub use Rattle.law_live.specs.LiveAnswers.{pass_ends, pass_answers}
 pub use Rattle.law_live.specs.LiveAnswers.{answers_to, answers, frames_got, items_refused, steps_made, times_told}
 pub use Rattle.law_live.specs.LiveAnswers.{got_at_text, now_text, Telling, answer_text, answers_text}
 pub use Rattle.law_live.specs.LiveAnswers.{last_text, report_said}
@@ -18,7 +19,7 @@ unfoldable pub use Rattle.law_live.specs.LiveAnswers.{rounds_answers, answers_fr
 pub use Rattle.law_live.specs.LiveMembers.{member_code, code_at, MemberTold, told_of, told_among, members_in, member_text}
 pub use Rattle.law_live.specs.LiveMembers.{members_text, members_told, told_by, codes_of, plain_code}
 unfoldable pub use Rattle.law_live.specs.LiveMembers.{last_code, Differ, code_after}
-pub use Rattle.law_live.specs.LiveQueue.{waiting_at, queue_since, queue_text, queue_of, queues_told, Reckoned, accepted_one}
-pub use Rattle.law_live.specs.LiveQueue.{reckoned_to, reckoned}
+pub use Rattle.law_live.specs.LiveQueue.{changed_number, queue_text, queue_texts, queue_of, queues_told, Reckoned}
+pub use Rattle.law_live.specs.LiveQueue.{accepted_one, reckoned_to, reckoned}
 unfoldable pub use Rattle.law_live.specs.LiveQueue.{last_number, AreOthers, reckoned_from}
 pub use Rattle.law_live.specs.Agrees.{IsSameBelow, HasLater, Agrees}

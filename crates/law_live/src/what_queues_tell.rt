@@ -23,9 +23,9 @@ pub fn queue_law()
         ≡ length (frames_before (scenario_by leg) (session_of leg) ticks)) }
     ensures most { (leg : Leg) (ticks : ℕ) → waiting_at leg ticks ≤ 256 }
     ensures differ { (leg : Leg) (said : List Saying) →
-        AreOthers 0 (queues_told leg (answers leg said)) }
+        AreOthers 0 (queues_told (answers leg said)) }
     ensures last { (leg : Leg) (said : List Saying) →
-        last_number 0 (queues_told leg (answers leg said))
+        last_number 0 (queues_told (answers leg said))
         ≡ waiting_at leg (live_counts leg said).ticks }
     ensures room { (config : Config) (said : List Saying) (octets : List ℕ) (leg : Leg) →
         IsSound leg → IsWellSaid config (said ++ lands (Frame octets) ∷ []) →

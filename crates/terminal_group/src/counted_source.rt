@@ -1,6 +1,6 @@
 //! The source side of a group that keeps no items: its terminal, how much has landed, and the inbox.
 
-ghost use Rattle.std.specs.Prelude.{◌≡◌, ◌+◌, ◌<◌, List, Option, None, length, IsSome, IfOk, is_some};
+ghost use Rattle.std.specs.Prelude.{◌≡◌, ◌+◌, ◌<◌, ◌≤◌, List, Option, None, length, IsSome, IfOk, is_some};
 ghost use Rattle.member_cells.specs.HeldPlaces.{held};
 ghost use Rattle.law_model.specs.Common.{IsNetwork, Scenario, steps_in, Told, told_by, frame_of};
 ghost use Rattle.terminal_source.specs.source_core.Terminal.{SameKind, needed};
@@ -85,6 +85,14 @@ impl CountedSource {
         ensures steps { result.now.steps ≡ steps_in self.now.core.ticks }
     {
         self.core.table()
+    }
+
+    /// How many frames wait, at most 256: those that were accepted and of which no octet is made.
+    pub fn waiting(&self) -> u16
+        ensures count { result ≡ length self.now.core.queue.waiting }
+        ensures most { result ≤ 256 }
+    {
+        self.core.waiting()
     }
 
     /// How much has landed.

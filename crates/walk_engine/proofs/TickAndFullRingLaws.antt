@@ -2,7 +2,7 @@
 use Rattle.std.proofs.Common.{◌≡◌, ℕ, suc, ◌+◌, ◌-◌, ◌*◌, ◌/◌, ◌%◌, ◌==◌, ◌&&◌, ◌<◌, ◌≤◌, min, nat_le, true, false}
 use Rattle.std.proofs.Common.{if◌then◌else◌, List, [], ◌∷◌, length, drop, map, slice_get, slice_set, slice_index_or}
 use Rattle.std.proofs.Common.{Option, Some, None, refl, sym, ◌∙◌, ap, subst, arith, inl, inr, Bool, option_map}
-use Rattle.std.proofs.Common.{is_some, eqb-true, leb-true, leb-false, length-set, eq-eqb, le-leb}
+use Rattle.std.proofs.Common.{fold, is_some, eqb-true, leb-true, leb-false, length-set, eq-eqb, le-leb}
 use Rattle.std.specs.List.{range_with_len}
 use Rattle.std.specs.Global.{Vec, Box}
 use Rattle.std.proofs.lemmas.Bool.{cases_Bool, cases_lt, eqb-false, lt-leb}
@@ -13,7 +13,7 @@ use Rattle.member_rows.proofs.RowGatherLinesLaws.{set-here}
 use Rattle.law_model.specs.Common.{BackCell, Container, Leg, Scenario, scenario_by, steps_in, Told, untold, most_lines}
 use Rattle.law_model.specs.Common.{Source as Session_source, source_at, session_cells, cells_before, container_of}
 use Rattle.law_model.specs.Common.{frame_of, LineCounts, Plan, Counts, Step, in_inbox, used_in, held, full, is_missing}
-use Rattle.law_model.specs.Common.{moved, tick, tick_held, tick_full, step, Course}
+use Rattle.law_model.specs.Common.{moved, tick, tick_held, tick_full, step, Course, Stream, frames_at, offered}
 use Rattle.law_model.specs.declared.walk_events.Event.TheVariants.{Tick}
 use Rattle.law_model.specs.declared.walk_events.StallCause.{StallCause}
 use Rattle.law_model.specs.declared.walk_events.StallCause.TheVariants.{Done, Held, BackMissing, TxFull}
@@ -25,7 +25,7 @@ use Rattle.law_progress.proofs.StalledEventLaws.{stalled-same}
 use Rattle.law_walk.specs.Common.{walk_plan, CanWalk, IsWalked, counts_at, sent_at, back_cell, return_ring, inbox}
 use Rattle.law_walk.specs.Common.{landed_scenario, told_before, last_packet, cell_taken, table_in}
 use Rattle.law_walk.proofs.WalkPlanAndPoppedCellLaws.{sound-walks, line-fits}
-use Rattle.law_walk.proofs.LandedItemRefusalAndTotalLaws.{told-frames}
+use Rattle.law_walk.proofs.LandedItemRefusalAndTotalLaws.{told-frames, told-streams}
 use Rattle.law_walk.proofs.WalkRingAndWaitingTakeLaws.{last-next, used-now, said-ends, table-now}
 use Rattle.law_model.proofs.ListLaws.{drop-next}
 use Rattle.terminal_group.specs.ReturnInbox.{Inbox, cell_for, rest_for}
@@ -37,11 +37,11 @@ use Rattle.terminal_group.proofs.InboxReturnCellLaws.{missing-some}
 use Rattle.walk_engine.specs.Common.{Return, path_of, early_cause, Ringed, answer_by, moved_of, counts_after, Parts}
 use Rattle.walk_engine.specs.Common.{frame_in, HasSource, HasSent, HasBack, HasCounted, counts_of, line_counts}
 use Rattle.walk_engine.specs.Common.{note_of, told_scenario, AgreesAt, LiveStands, walking_of, Makes, with_passed}
-use Rattle.walk_engine.specs.Common.{CanTick, windows_in}
+use Rattle.walk_engine.specs.Common.{CanTick, waiting_in, windows_in}
 use Rattle.walk_engine.specs.declared.walk_core.step_answers.StepNote.{StepNote}
 use Rattle.walk_engine.specs.declared.walk_core.step_answers.Moved.TheVariants.{Yes, Stalled}
 use Rattle.walk_engine.specs.walk_core.WayParts.{WayStands}
-use Rattle.walk_engine.proofs.WayEventAndToldSourceLaws.{told-source, passed-made, passed-frame, walk-fits}
+use Rattle.walk_engine.proofs.WayEventAndToldSourceLaws.{told-source, told-stream, passed-made, passed-frame, walk-fits}
 use Rattle.walk_engine.proofs.WayEventAndToldSourceLaws.{walked-next, sink-stays, set-each}
 use Rattle.walk_engine.proofs.LineCarryAndSendRingLaws.{frame-at}
 use Rattle.law_walk.proofs.WalkRingAndWaitingTakeLaws as return_laws
@@ -499,6 +499,16 @@ module _ (leg : Leg) (backs : ℕ) (parts : Parts) (is : WayStands leg backs par
   table-after =
       ap (λ (source : Session_source). source.table) source-after
       ∙ table-now leg (counts_of parts backs) (sound-walks leg is.sound) is.walked
+
+  -- ---- the frames that wait
+  pub waiting-after : length parts.source.core.queue.waiting ≡ waiting_in leg (counts_of parts backs)
+  waiting-after =
+      let s : Counts = counts_of parts backs in
+      ap length is.source.made.stream.waits
+      ∙ ap (λ (stream : Stream). length stream.waiting)
+      (told-stream leg s (told_before leg s.ticks)
+      ∙ ap (λ (stream : Stream). fold offered stream (frames_at (landed_scenario leg s) s.ticks))
+      (told-streams leg s (sound-walks leg is.sound) is.walked s.ticks (omega arith)))
 
 -- ---- of a walk
 module _ (leg : Leg) (parts : Parts) (ring : List Packet) (last : Option StepNote)

@@ -12,7 +12,7 @@ pub use Rattle.walk_engine.specs.walk_core.LiveWalking.{LiveRounds, LiveStands, 
 pub use Rattle.walk_engine.specs.walk_core.WayParts.{HasBack, HasCounted, HasLanded, HasLine, HasLines, HasSent, HasSource}
 pub use Rattle.walk_engine.specs.walk_core.WayParts.{Parts, StandsForSome, calls_on, counts_of, frame_in, line_counts}
 pub use Rattle.walk_engine.specs.walk_core.WayParts.{AgreesAt, calls_of, windows_in, windows_of, windows_on}
-pub use Rattle.walk_engine.specs.walk_core.WayParts.{note_of, sent_frames, told_leg, told_scenario}
+pub use Rattle.walk_engine.specs.walk_core.WayParts.{note_of, sent_frames, told_leg, told_scenario, waiting_in}
 pub use Rattle.walk_engine.specs.walk_core.Take.{CanPop, CanTake, HasPopped, HasRow, take_cause}
 pub use Rattle.walk_engine.specs.walk_core.EventAnswers.{CanTick, IsDue, IsNoneHeld, IsTold, Makes, Takes, next_in}
 pub use Rattle.walk_engine.specs.walk_core.EventAnswers.{said_at, take_by, take_moved, with_passed}

@@ -11,15 +11,16 @@ use Rattle.law_walk.specs.Common.{walk_plan, is_client, refusal_at}
 use Rattle.law_live.specs.Common.{Agrees, CanSay, CanSayAll, IsWellSaid, Live, Saying, answers_from, answers_to}
 use Rattle.law_live.specs.Common.{counts_from, counts_said, course_at, leg_said, live_after, live_counts, live_from}
 use Rattle.law_live.specs.Common.{live_of, opened, passes, uncut, windows_by, LineCourse, answers_text, cut_at, cuts}
-use Rattle.law_live.specs.Common.{item_at, lands, mended_at, mends, next_item, now_text}
+use Rattle.law_live.specs.Common.{item_at, lands, mended_at, mends, next_item, now_text, waiting_at}
 use Rattle.law_live.proofs.AgreeingLegConversationLaws.{agrees-own, can-back, counts-more, live-more, agrees-before}
 use Rattle.law_live.proofs.AgreeingLegConversationLaws.{agrees-stands, well-front, agrees-number, agrees-offers}
 use Rattle.law_live.proofs.AgreeingLegConversationLaws.{agrees-orders, pass-left, pass-made, said-next}
+use Rattle.law_live.proofs.QueueAndRoomLaws.{none-wait, waits-passed}
 use Rattle.law_live.proofs.WellSaidLegAndWindowLaws.{said-lines, said-sound, closed-below, right-all, right-opened}
 use Rattle.law_live.proofs.WellSaidLegAndWindowLaws.{IsOpen}
 use Rattle.walk_engine.specs.walk_core.LiveWalking.{IsLegOver, LiveStands, Walking, walking_counts, IsLive, LiveMakes}
 use Rattle.walk_engine.specs.walk_core.OpenedWay.{HasWindows}
-use Rattle.walk_engine.specs.walk_core.WayParts.{AgreesAt, windows_in, windows_of}
+use Rattle.walk_engine.specs.walk_core.WayParts.{AgreesAt, waiting_in, windows_in, windows_of}
 use Rattle.walk_live.specs.Answered.{IsLegOf, WalksAs, IsAnswered, Answers, AnswersPart}
 use Rattle.law_model.specs.declared.item_refusals.Refusal.{Refusal}
 use Rattle.law_model.specs.declared.script_types.ItemKind.{ItemKind}
@@ -31,7 +32,7 @@ use Rattle.walk_engine.specs.walk_core.WalkAfterEvent.{counts_after, refusal_in_
 use Rattle.walk_engine.specs.walk_core.EventAnswers.{IsDue}
 use Rattle.walk_live.specs.declared.answered_walk.AnsweredWalk.{AnsweredWalk}
 use Rattle.walk_live.specs.PassingRounds.{CanPass, CanRound, IsOtherwise, rounds_text}
-use Rattle.walk_live.specs.LiveReplies.{answer_to, step_line, answered_since}
+use Rattle.walk_live.specs.LiveReplies.{answer_to, queue_lines, telling, answered_since}
 use Rattle.walk_live.proofs.SaidItemAndFailureLaws.{can-mend, cut-windows, mend-windows, over-end, set-windows}
 use Rattle.walk_live.proofs.SaidItemAndFailureLaws.{uncut-windows, IsNext, accepted-text, counts-are, next-due}
 use Rattle.walk_live.proofs.SaidItemAndFailureLaws.{refusal-is, refused-text}
@@ -155,11 +156,16 @@ pub nothing-items : (config : Config) → 0 ≡ length (live_of config []).items
 unfolding live_from
 nothing-items config = refl
 
+pub nothing-waits : (config : Config) (leg : Leg) → 0 ≡ waiting_at leg (live_of config []).passed
+unfolding live_from
+nothing-waits config leg = sym (none-wait leg)
+
 -- ---- One saying more to a walk that has answered what was said.
 pub other-then : (was now next : AnsweredWalk) → IsOtherwise was now → IsOtherwise now next → IsOtherwise was next
 other-then was now next first second = record {
   lines = second.lines ∙ first.lines;
   items = second.items ∙ first.items;
+  waiting = second.waiting ∙ first.waiting;
   tells = second.tells ∙ first.tells;
 }
 
@@ -222,6 +228,9 @@ module _ (walk : AnsweredWalk) (asked : Asked) (config : Config) (said : List Sa
                   ∙ sym (ap (λ (l : Live). windows_by config.ticks (course_at l n)) whole));
               lines = is.lines;
               items = is.items ∙ sym (ap (λ (l : Live). length l.items) whole);
+              waiting = λ leg more.
+                  is.waiting leg (leg-less config said (saying ∷ []) leg well more)
+                  ∙ sym (ap (λ (l : Live). waiting_at leg l.passed) whole);
               tells = is.tells;
             }
 
@@ -371,6 +380,9 @@ module _ (walk : AnsweredWalk) (asked : Asked) (config : Config) (said : List Sa
             ∙ sym (ap (λ (l : Live). windows_by config.ticks (course_at l m)) (live-one config said (lands kind))));
         lines = is.lines;
         items = one ∙ sym land-size;
+        waiting = λ leg more.
+            is.waiting leg (leg-less config said (lands kind ∷ []) leg well more)
+            ∙ sym (ap (λ (l : Live). waiting_at leg l.passed) (live-one config said (lands kind)));
         tells = is.tells;
       }
 
@@ -396,7 +408,7 @@ module _ (walk : AnsweredWalk) (asked : Asked) (config : Config) (said : List Sa
           refused-text asked leg (live_counts leg said) kind walk.items why
           (is.items ∙ sym (agrees-number config leg less.sound said is.well less.agrees))
           (land-refusal (Some why) refused)
-          ∙ sym (ap (answers_text (step_line asked leg)) (answer-one leg said (lands kind)))
+          ∙ sym (ap (answers_text (telling asked leg)) (answer-one leg said (lands kind)))
 
       pub land-accepted :
           ((leg : Leg) → LiveStands leg walk.walk → IsDue leg (walking_counts walk.walk) kind →
@@ -404,7 +416,7 @@ module _ (walk : AnsweredWalk) (asked : Asked) (config : Config) (said : List Sa
           answer_to asked config said (lands kind) ≡ []
       land-accepted refused =
           let leg : Leg = leg_said config (said ++ lands kind ∷ []) in
-          ap (answers_text (step_line asked leg)) (answer-one leg said (lands kind))
+          ap (answers_text (telling asked leg)) (answer-one leg said (lands kind))
           ∙ accepted-text asked leg (live_counts leg said) kind (land-refusal None refused)
 
     -- ---- ticks that pass
@@ -468,27 +480,65 @@ module _ (walk : AnsweredWalk) (asked : Asked) (config : Config) (said : List Sa
           ap (λ l. slice_index_or l m []) same ∙ is.walks.windows m low
           ∙ sym (ap (λ (l : Live). windows_by config.ticks (course_at l m)) (live-one config said (passes k))))
 
-      pub pass-answered : (now : AnsweredWalk) → IsOtherwise walk now → WalksAs config (said ++ passes k ∷ []) now.walk →
-          IsAnswered now asked config (said ++ passes k ∷ [])
-      pass-answered now same walks = record {
+      -- how many frames wait by then
+      pub pass-waits : (now : Walking) (waiting : ℕ) → WalksAs config (said ++ passes k ∷ []) now →
+          ((leg : Leg) → LiveStands leg now → waiting ≡ waiting_in leg (walking_counts now)) →
+          (leg : Leg) → IsLegOf config (said ++ passes k ∷ []) leg →
+          waiting ≡ waiting_at leg (live_of config (said ++ passes k ∷ [])).passed
+      pass-waits now waiting walks waits leg more =
+          waits leg (walks.stands leg more) ∙ ap (waiting_in leg) (walks.counts leg more)
+          ∙ waits-passed config leg more.sound said k well more.agrees
+          ∙ ap (waiting_at leg) (leg-ticks config (said ++ passes k ∷ []) leg well more)
+
+      pub pass-answered : (now : AnsweredWalk) (waiting : ℕ) → IsOtherwise walk now →
+          WalksAs config (said ++ passes k ∷ []) now.walk →
+          ((leg : Leg) → LiveStands leg now.walk → waiting ≡ waiting_in leg (walking_counts now.walk)) →
+          IsAnswered (record now { waiting = waiting }) asked config (said ++ passes k ∷ [])
+      pass-answered now waiting same walks waits = record {
         network = is.network;
         well = well;
         walks = walks;
         lines = same.lines ∙ is.lines;
         items = same.items ∙ is.items ∙ sym (ap (λ (l : Live). length l.items) (live-one config said (passes k)));
+        waiting = pass-waits now.walk waiting walks waits;
         tells = same.tells ∙ is.tells;
       }
 
-      pub pass-answer : (until : ℕ) → until ≡ (live_of config said).passed + k →
-          rounds_text asked config said k ++ now_text until ≡ answer_to asked config said (passes k)
-      pass-answer until ends =
+      -- what is told behind the rounds
+      abbrev pub pass_rest : ℕ → List ℕ
+      pass_rest until =
+          let leg : Leg = leg_said config (said ++ passes k ∷ []) in
+          queue_lines asked (waiting_at leg (live_counts leg said).ticks) (waiting_at leg until) ++ now_text until
+
+      pub pass-whole : (until : ℕ) → until ≡ (live_of config said).passed + k →
+          rounds_text asked config said k ++ pass_rest until ≡ answer_to asked config said (passes k)
+      pass-whole until ends =
           let leg : Leg = leg_said config (said ++ passes k ∷ []) in
           let less = leg-less config said (passes k ∷ []) leg well pass-own in
           let ticks = leg-ticks config said leg is.well less in
           let more = pass-made config leg less.sound said k well pass-own.agrees in
           let said_ticks = ap (λ s. s.ticks) (counts-one leg said (passes k)) in
           pass-text asked leg (live_counts leg said) k until (omega (arith, ends, ticks, more, said_ticks))
-          ∙ sym (ap (answers_text (step_line asked leg)) (answer-one leg said (passes k)))
+          ∙ sym (ap (answers_text (telling asked leg)) (answer-one leg said (passes k)))
+
+      -- by what is kept
+      pub pass-answer : (now : AnsweredWalk) (until waiting : ℕ) → until ≡ (live_of config said).passed + k →
+          IsOtherwise walk now → WalksAs config (said ++ passes k ∷ []) now.walk →
+          ((leg : Leg) → LiveStands leg now.walk → waiting ≡ waiting_in leg (walking_counts now.walk)) →
+          rounds_text asked config said k ++ (queue_lines now.tells now.waiting waiting ++ now_text until)
+          ≡ answer_to asked config said (passes k)
+      pass-answer now until waiting ends same walks waits =
+          let leg : Leg = leg_said config (said ++ passes k ∷ []) in
+          let less = leg-less config said (passes k ∷ []) leg well pass-own in
+          let ticks = leg-ticks config said leg is.well less in
+          let end : (live_of config (said ++ passes k ∷ [])).passed ≡ until =
+          ap (λ (l : Live). l.passed) (live-one config said (passes k)) ∙ sym ends in
+          ap (λ a. rounds_text asked config said k ++ (queue_lines a now.waiting waiting ++ now_text until))
+          (same.tells ∙ is.tells)
+          ∙ ap₂ (λ a b. rounds_text asked config said k ++ (queue_lines asked a b ++ now_text until))
+          (same.waiting ∙ is.waiting leg less ∙ ap (waiting_at leg) (sym ticks))
+          (pass-waits now.walk waiting walks waits leg pass-own ∙ ap (waiting_at leg) end)
+          ∙ pass-whole until ends
 
 -- ---- What a walk answers to what a line says, by what it answers to one saying.
 -- nothing is answered where nothing is said, or a line is cut or mended

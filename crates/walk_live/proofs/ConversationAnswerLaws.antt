@@ -10,7 +10,7 @@ use Rattle.law_model.specs.declared.script_types.Config.{Config}
 use Rattle.law_model.specs.Common.{Table, after, scenario_by, state_of}
 use Rattle.law_walk.specs.Common.{cell_taken, session_of, table_in, walk_plan, landed_items, report_of}
 use Rattle.law_live.specs.Common.{code_at, member_code, members_text, told_among}
-use Rattle.law_live.specs.LiveAnswers.{refused_item, step_made, got_at, now_at, answers_from}
+use Rattle.law_live.specs.LiveAnswers.{Telling, refused_item, step_made, got_at, queue_at, now_at, answers_from}
 use Rattle.law_live.specs.Common.{Agrees, Answer, IsWellSaid, Saying, answer_text, answers, answers_text, leg_said}
 use Rattle.law_live.specs.Common.{live_of, steps_made, Live, leg_by, events_by, report_said, rounds_of, last_text}
 use Rattle.law_live.proofs.AgreeingLegConversationLaws.{agrees-own, text-more, agrees-begin, agrees-stands}
@@ -18,7 +18,7 @@ use Rattle.law_live.proofs.AgreeingLegConversationLaws.{answers-steps, well-fron
 use Rattle.law_live.proofs.SamePastRoundAndAnswerLaws.{later}
 use Rattle.law_live.proofs.WellSaidLegAndWindowLaws.{said-sound}
 use Rattle.text_captures.specs.packet_trace.StepText.{step_text}
-use Rattle.walk_live.specs.LiveReplies.{answered, answered_since, step_line, live_dialogue, live_reply, reply_by}
+use Rattle.walk_live.specs.LiveReplies.{answered, answered_since, step_line, telling, live_dialogue, live_reply, reply_by}
 use Rattle.walk_live.specs.LiveReplies.{live_last}
 use Rattle.text_live.specs.LiveLines.{Said, live_or, nothing_said, LineWrong, line_fault, now_live, opening_fault}
 use Rattle.text_live.specs.Sayings.{AgreesWith, AreFine, leg_in, line_saying, said_in, sayings}
@@ -44,18 +44,21 @@ use Rattle.walk_live.specs.declared.asked.Asked.TheVariants.{Nothing, Steps, Mem
 
 -- ---- What was answered stands in the leg of more that is said: its lines too.
 -- ---- lines of answers, where some decision steps have the same
-same_texts : (step other : ℕ → List ℕ) (n : ℕ) (told : List Answer) → All (λ j. j < n) (steps_made told) →
-    ((j : ℕ) → j < n → step j ≡ other j) → answers_text step told ≡ answers_text other told
-same_texts step other n [] low same = refl
-same_texts step other n (refused_item number why ∷ told) low same =
-    ap (λ text. answer_text other (refused_item number why) ++ text) (same_texts step other n told low same)
-same_texts step other n (step_made j ∷ told) low same =
+same_texts : (tells other : Telling) (n : ℕ) (told : List Answer) → tells.queue ≡ other.queue →
+    All (λ j. j < n) (steps_made told) → ((j : ℕ) → j < n → tells.step j ≡ other.step j) →
+    answers_text tells told ≡ answers_text other told
+same_texts tells other n [] queue low same = refl
+same_texts tells other n (refused_item number why ∷ told) queue low same =
+    ap (λ text. answer_text other (refused_item number why) ++ text) (same_texts tells other n told queue low same)
+same_texts tells other n (step_made j ∷ told) queue low same =
     ap₂ (λ x y. x ++ y) (same j (All-head (λ i. i < n) j (steps_made told) low))
-    (same_texts step other n told (All-tail (λ i. i < n) j (steps_made told) low) same)
-same_texts step other n (got_at ticks frame ∷ told) low same =
-    ap (λ text. answer_text other (got_at ticks frame) ++ text) (same_texts step other n told low same)
-same_texts step other n (now_at ticks ∷ told) low same =
-    ap (λ text. answer_text other (now_at ticks) ++ text) (same_texts step other n told low same)
+    (same_texts tells other n told queue (All-tail (λ i. i < n) j (steps_made told) low) same)
+same_texts tells other n (got_at ticks frame ∷ told) queue low same =
+    ap (λ text. answer_text other (got_at ticks frame) ++ text) (same_texts tells other n told queue low same)
+same_texts tells other n (queue_at was now ∷ told) queue low same =
+    ap₂ (λ line text. line was now ++ text) queue (same_texts tells other n told queue low same)
+same_texts tells other n (now_at ticks ∷ told) queue low same =
+    ap (λ text. answer_text other (now_at ticks) ++ text) (same_texts tells other n told queue low same)
 
 range_low : (n : ℕ) → All (λ j. j < n) (range_with_len 0 n)
 range_low n i d inside =
@@ -117,9 +120,9 @@ module _ (config : Config) (said : List Saying) (leg other : Leg) (sound : IsSou
 
     pub same_answered : (asked : Asked) → answered asked leg said ≡ answered asked other said
     same_answered asked =
-        same_texts (step_line asked leg) (step_line asked other) (steps_in (live_of config said).passed)
-        (answers leg said) steps_low (same_line asked)
-        ∙ ap (answers_text (step_line asked other)) (later config said leg other sound sound' well agrees agrees').answers
+        same_texts (telling asked leg) (telling asked other) (steps_in (live_of config said).passed)
+        (answers leg said) refl steps_low (same_line asked)
+        ∙ ap (answers_text (telling asked other)) (later config said leg other sound sound' well agrees agrees').answers
 
 -- ---- more is said
 pub answered_before : (asked : Asked) (config : Config) (said more : List Saying) → IsNetwork config →
@@ -133,7 +136,7 @@ answered_before asked config said more network well =
 
 pub answered_more : (asked : Asked) (leg : Leg) (said more : List Saying) →
     answered asked leg (said ++ more) ≡ answered asked leg said ++ answered_since asked leg said more
-answered_more asked leg said more = text-more leg (begin (walk_plan leg)) said more (step_line asked leg)
+answered_more asked leg said more = text-more leg (begin (walk_plan leg)) said more (telling asked leg)
 
 -- ---- What is answered to lines grows by the answer to each behind those before it.
 -- ---- from the first live line on

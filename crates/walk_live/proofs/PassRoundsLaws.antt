@@ -12,7 +12,8 @@ use Rattle.law_walk.proofs.WalkPlanAndPoppedCellLaws.{has-plan, sound-walks}
 use Rattle.walk_engine.proofs.LineCarryAndSendRingLaws.{paths-size}
 use Rattle.law_model.specs.declared.walk_events.Event.TheVariants.{Tick}
 use Rattle.law_live.specs.Common.{after_rounds, live_round, IsWellSaid, Saying, answer_text, answers_text, got_at}
-use Rattle.law_live.specs.Common.{counts_said, live_counts, live_of, now_at, now_text, pass_answers, passes}
+use Rattle.law_live.specs.Common.{Telling, counts_said, live_counts, live_of, now_text, pass_answers, pass_ends, passes}
+use Rattle.law_live.specs.Common.{waiting_at}
 use Rattle.law_live.specs.Common.{round_answers, rounds_answers, rounds_for, rounds_until, steps_between}
 use Rattle.law_live.proofs.LiveRoundAndLandingLaws.{Goes, goes-carries, rounds-over}
 use Rattle.std.proofs.lemmas.Grind.{flat_map-append}
@@ -26,7 +27,7 @@ use Rattle.walk_engine.specs.walk_core.EventAnswers.{IsNoneHeld}
 use Rattle.walk_engine.proofs.WalkRoundAndTotalsLaws.{tick-kept}
 use Rattle.walk_live.specs.Answered.{IsLegOf}
 use Rattle.walk_live.specs.PassingRounds.{round_text, steps_text}
-use Rattle.walk_live.specs.LiveReplies.{step_line}
+use Rattle.walk_live.specs.LiveReplies.{queue_lines, telling}
 use Rattle.walk_live.specs.TimedWriting.{timed_texts}
 use Rattle.walk_live.proofs.TimedLineWritingLaws.{holds-more, holds-none, part-longer, part-more}
 use Rattle.walk_live.specs.declared.asked.Asked.{Asked}
@@ -92,7 +93,7 @@ abbrev pub turns : Leg → ℕ → Counts → ℕ
 turns leg until s = rounds_until (bound (walk_plan leg)) (walk_plan leg) until s
 
 abbrev pub rest_text : Asked → Leg → ℕ → Counts → List ℕ
-rest_text asked leg until s = answers_text (step_line asked leg) (rounds_answers (turns leg until s) leg s)
+rest_text asked leg until s = answers_text (telling asked leg) (rounds_answers (turns leg until s) leg s)
 
 abbrev pub pass_end : Leg → ℕ → Counts → Counts
 pass_end leg until s = after_rounds (turns leg until s) (walk_plan leg) s
@@ -105,8 +106,8 @@ rest-round : (asked : Asked) (leg : Leg) (until : ℕ) (s : Counts) →
 unfolding rounds_answers
 rest-round asked leg until s turn =
     let next : Counts = live_round (walk_plan leg) s in
-    ap (λ n. answers_text (step_line asked leg) (rounds_answers n leg s)) turn
-    ∙ flat_map-append (answer_text (step_line asked leg)) (round_answers leg s next)
+    ap (λ n. answers_text (telling asked leg) (rounds_answers n leg s)) turn
+    ∙ flat_map-append (answer_text (telling asked leg)) (round_answers leg s next)
     (rounds_answers (turns leg until next) leg next)
 
 end-round : (leg : Leg) (until : ℕ) (s : Counts) →
@@ -119,7 +120,7 @@ end-round leg until s turn = ap (λ n. after_rounds n (walk_plan leg) s) turn
 rest-over : (asked : Asked) (leg : Leg) (until : ℕ) (s : Counts) → until ≤ s.ticks → rest_text asked leg until s ≡ []
 unfolding rounds_answers
 rest-over asked leg until s over =
-    ap (λ n. answers_text (step_line asked leg) (rounds_answers n leg s))
+    ap (λ n. answers_text (telling asked leg) (rounds_answers n leg s))
     (rounds-over (bound (walk_plan leg)) (walk_plan leg) until s over)
 
 end-over : (leg : Leg) (until : ℕ) (s : Counts) → until ≤ s.ticks → pass_end leg until s ≡ s
@@ -260,20 +261,20 @@ module _ (config : Config) (said : List Saying) (k : ℕ) (leg : Leg) (well : Is
           tells.holds
 
 -- ---- the text of a round
-frames-text : (step : ℕ → List ℕ) (ticks : ℕ) (frames : List (List ℕ)) →
-    answers_text step (map (got_at ticks) frames) ≡ timed_texts ticks frames
-frames-text step ticks [] = refl
-frames-text step ticks (frame ∷ frames) =
-    ap (λ l. answer_text step (got_at ticks frame) ++ l) (frames-text step ticks frames)
+frames-text : (tells : Telling) (ticks : ℕ) (frames : List (List ℕ)) →
+    answers_text tells (map (got_at ticks) frames) ≡ timed_texts ticks frames
+frames-text tells ticks [] = refl
+frames-text tells ticks (frame ∷ frames) =
+    ap (λ l. answer_text tells (got_at ticks frame) ++ l) (frames-text tells ticks frames)
 
 pub round-parts-text : (asked : Asked) (leg : Leg) (was now : Counts) →
-    answers_text (step_line asked leg) (round_answers leg was now)
+    answers_text (telling asked leg) (round_answers leg was now)
     ≡ steps_text asked leg was.ticks now.ticks ++ timed_texts now.ticks (delivered_since leg was.rows now.rows)
 round-parts-text asked leg was now =
-    flat_map-append (answer_text (step_line asked leg)) (steps_between was.ticks now.ticks)
+    flat_map-append (answer_text (telling asked leg)) (steps_between was.ticks now.ticks)
     (map (got_at now.ticks) (delivered_since leg was.rows now.rows))
     ∙ ap (λ l. steps_text asked leg was.ticks now.ticks ++ l)
-    (frames-text (step_line asked leg) now.ticks (delivered_since leg was.rows now.rows))
+    (frames-text (telling asked leg) now.ticks (delivered_since leg was.rows now.rows))
 
 -- by its parts: what was told after the tick, and then the frames
 pub round-told : (asked : Asked) (leg : Leg) (was mid now : Counts) (before : ℕ) → before ≡ was.ticks →
@@ -295,12 +296,14 @@ round-told asked leg was mid now before first made all =
 -- ---- the text of a pass
 pub pass-text : (asked : Asked) (leg : Leg) (s : Counts) (k ticks : ℕ) →
     ticks ≡ (counts_said (walk_plan leg) s (passes k)).ticks →
-    answers_text (step_line asked leg) (rounds_answers (rounds_for k (walk_plan leg) s) leg s) ++ now_text ticks
-    ≡ answers_text (step_line asked leg) (pass_answers leg s k)
+    answers_text (telling asked leg) (rounds_answers (rounds_for k (walk_plan leg) s) leg s)
+    ++ (queue_lines asked (waiting_at leg s.ticks) (waiting_at leg ticks) ++ now_text ticks)
+    ≡ answers_text (telling asked leg) (pass_answers leg s k)
 pass-text asked leg s k ticks is =
-    let rounds = answers_text (step_line asked leg) (rounds_answers (rounds_for k (walk_plan leg) s) leg s) in
-    ap (λ n. rounds ++ now_text n) is
-    ∙ sym (flat_map-append (answer_text (step_line asked leg))
-    (rounds_answers (rounds_for k (walk_plan leg) s) leg s)
-    (now_at (counts_said (walk_plan leg) s (passes k)).ticks ∷ [])
-    ∙ ap (λ l. rounds ++ l) (append-nil (now_text (counts_said (walk_plan leg) s (passes k)).ticks)))
+    let rounds = answers_text (telling asked leg) (rounds_answers (rounds_for k (walk_plan leg) s) leg s) in
+    let now : ℕ = (counts_said (walk_plan leg) s (passes k)).ticks in
+    let queue : List ℕ = queue_lines asked (waiting_at leg s.ticks) (waiting_at leg now) in
+    ap (λ n. rounds ++ (queue_lines asked (waiting_at leg s.ticks) (waiting_at leg n) ++ now_text n)) is
+    ∙ sym (flat_map-append (answer_text (telling asked leg))
+    (rounds_answers (rounds_for k (walk_plan leg) s) leg s) (pass_ends leg s.ticks now)
+    ∙ ap (λ l. rounds ++ (queue ++ l)) (append-nil (now_text now)))

@@ -17,7 +17,7 @@ use Rattle.law_live.specs.Common.{LineCourse, closed, cut_at, uncut, windows_by}
 use Rattle.walk_engine.specs.walk_core.Landing.{landing_of}
 use Rattle.walk_engine.specs.walk_core.WalkAfterEvent.{counts_after, refusal_in_event, refusal_of_item}
 use Rattle.walk_engine.specs.walk_core.EventAnswers.{IsDue, next_in}
-use Rattle.walk_live.specs.LiveReplies.{step_line}
+use Rattle.walk_live.specs.LiveReplies.{telling}
 use Rattle.std.proofs.lemmas.List.{get_or-set_other, get_or-set_same}
 use Rattle.std.proofs.lemmas.List.Elements.{All-head, All-tail}
 use Rattle.law_model.specs.declared.window_types.Window.{Window}
@@ -130,16 +130,16 @@ counts-are leg s (Remove line) = refl
 
 -- ---- what is answered
 pub accepted-text : (asked : Asked) (leg : Leg) (s : Counts) (kind : ItemKind) →
-    refusal_at leg (next_item s kind) ≡ None → answers_text (step_line asked leg) (item_answers leg s kind) ≡ []
+    refusal_at leg (next_item s kind) ≡ None → answers_text (telling asked leg) (item_answers leg s kind) ≡ []
 accepted-text asked leg s kind none =
-    ap (λ why. answers_text (step_line asked leg) (refused_answer (s.frames + s.commands) why)) none
+    ap (λ why. answers_text (telling asked leg) (refused_answer (s.frames + s.commands) why)) none
 
 pub refused-text : (asked : Asked) (leg : Leg) (s : Counts) (kind : ItemKind) (number : ℕ) (why : Refusal) →
     number ≡ s.frames + s.commands → refusal_at leg (next_item s kind) ≡ Some why →
-    refused_text number why ≡ answers_text (step_line asked leg) (item_answers leg s kind)
+    refused_text number why ≡ answers_text (telling asked leg) (item_answers leg s kind)
 refused-text asked leg s kind number why is some =
     ap (λ n. refused_text n why) is
-    ∙ sym (ap (λ o. answers_text (step_line asked leg) (refused_answer (s.frames + s.commands) o)) some
+    ∙ sym (ap (λ o. answers_text (telling asked leg) (refused_answer (s.frames + s.commands) o)) some
     ∙ append-nil (refused_text (s.frames + s.commands) why))
 
 -- ---- The failures of a line, as a walk keeps them and as they were said.

@@ -2,7 +2,7 @@
 use Rattle.std.specs.Prelude.{◌≡◌, ℕ, ◌<◌, List, [], ◌∷◌, ◌++◌, length, Option, slice_index_or}
 use Rattle.law_model.specs.Common.{AppendsPart, IsNetwork, IsSound, Leg}
 use Rattle.law_model.specs.declared.script_types.Config.{Config}
-use Rattle.law_live.specs.Common.{Agrees, IsWellSaid, Saying, course_at, live_counts, live_of, windows_by}
+use Rattle.law_live.specs.Common.{Agrees, IsWellSaid, Saying, course_at, live_counts, live_of, waiting_at, windows_by}
 use Rattle.text_got.specs.TextSoFar.{Holds}
 use Rattle.walk_engine.specs.walk_core.LiveWalking.{Walking, LiveStands, walking_counts}
 use Rattle.walk_engine.specs.walk_core.WayParts.{windows_in}
@@ -32,6 +32,7 @@ pub record IsAnswered (walk : AnsweredWalk) (asked : Asked) (config : Config) (s
   pub walks : WalksAs config said walk.walk
   pub lines : walk.lines ≡ config.lines
   pub items : walk.items ≡ length (live_of config said).items
+  pub waiting : (leg : Leg) → IsLegOf config said leg → walk.waiting ≡ waiting_at leg (live_of config said).passed
   pub tells : walk.tells ≡ asked
 
 -- one more saying, which was answered: the answer is written, or waits behind what waited

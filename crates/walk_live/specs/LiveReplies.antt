@@ -6,7 +6,7 @@ use Rattle.law_model.specs.Common.{Leg}
 use Rattle.law_model.specs.declared.script_types.Config.{Config}
 use Rattle.law_walk.specs.Common.{cell_taken, table_in}
 use Rattle.law_live.specs.Common.{Saying, answers, answers_from, answers_text, last_text, leg_said, live_counts}
-use Rattle.law_live.specs.Common.{members_in, members_text}
+use Rattle.law_live.specs.Common.{Telling, changed_number, members_in, members_text, queue_texts}
 use Rattle.text_captures.specs.packet_trace.StepText.{step_text}
 use Rattle.text_live.specs.LiveLines.{LineWrong, line_fault, opening_fault}
 use Rattle.text_live.specs.LiveReaderStands.{fault_at}
@@ -23,13 +23,22 @@ step_line Nothing leg j = []
 step_line Steps leg j = step_text j (cell_taken leg j) (table_in leg (16 * j + 9)) leg.config.lines
 step_line Members leg j = members_text (members_in leg j)
 
+-- and of a pass, by how many frames wait before and behind it: that number, where it is another one
+abbrev pub queue_lines : Asked → ℕ → ℕ → List ℕ
+queue_lines Nothing was now = []
+queue_lines Steps was now = []
+queue_lines Members was now = queue_texts (changed_number was now)
+
+abbrev pub telling : Asked → Leg → Telling
+telling asked leg = record { step = step_line asked leg; queue = queue_lines asked }
+
 -- what is answered to all that was said, and to more that is said behind it
 abbrev pub answered : Asked → Leg → List Saying → List ℕ
-answered asked leg said = answers_text (step_line asked leg) (answers leg said)
+answered asked leg said = answers_text (telling asked leg) (answers leg said)
 
 abbrev pub answered_since : Asked → Leg → List Saying → List Saying → List ℕ
 answered_since asked leg said more =
-    answers_text (step_line asked leg) (answers_from leg (live_counts leg said) more)
+    answers_text (telling asked leg) (answers_from leg (live_counts leg said) more)
 
 -- to one saying more over a configuration: of the session of which that is all
 abbrev pub answer_to : Asked → Config → List Saying → Saying → List ℕ

@@ -13,7 +13,7 @@ use Rattle.walk_live.specs.declared.answered_walk.AnsweredWalk.{AnsweredWalk}
 use Rattle.walk_live.specs.declared.asked.Asked.{Asked}
 use Rattle.walk_live.specs.declared.asked.Asked.TheVariants.{Members}
 use Rattle.walk_live.specs.Answered.{IsAnswered}
-use Rattle.walk_live.specs.LiveReplies.{step_line}
+use Rattle.walk_live.specs.LiveReplies.{telling}
 
 -- ---- a round
 -- a walk stands for a leg, of which nothing is held that is due now; and they say the same of the containers that are
@@ -27,6 +27,7 @@ pub record CanRound (leg : Leg) (walk : Walking) : Type 0 where
 pub record IsOtherwise (was now : AnsweredWalk) : Type 0 where
   pub lines : now.lines ≡ was.lines
   pub items : now.items ≡ was.items
+  pub waiting : now.waiting ≡ was.waiting
   pub tells : now.tells ≡ was.tells
 
 -- the states of so many lines, once these ticks are made; and where members are told and a decision step comes next
@@ -39,11 +40,11 @@ HasStates asked leg lines ticks states = asked ≡ Members → ticks % 16 ≡ 8 
 
 -- what is told of the decision step that was made from some ticks to others, at most one apart
 abbrev pub steps_text : Asked → Leg → ℕ → ℕ → List ℕ
-steps_text asked leg was now = answers_text (step_line asked leg) (steps_between was now)
+steps_text asked leg was now = answers_text (telling asked leg) (steps_between was now)
 
 abbrev pub round_text : Asked → Leg → Counts → List ℕ
 round_text asked leg s =
-    answers_text (step_line asked leg) (round_answers leg s (live_round (walk_plan leg) s))
+    answers_text (telling asked leg) (round_answers leg s (live_round (walk_plan leg) s))
 
 -- ---- the rounds of a pass
 -- so many ticks more may pass, up to a number of ticks
@@ -57,4 +58,4 @@ pub record CanPass (walk : AnsweredWalk) (asked : Asked) (config : Config) (said
 abbrev pub rounds_text : Asked → Config → List Saying → ℕ → List ℕ
 rounds_text asked config said k =
     let leg = leg_said config (said ++ passes k ∷ []) in
-    answers_text (step_line asked leg) (rounds_answers (rounds_for k (walk_plan leg) (live_counts leg said)) leg (live_counts leg said))
+    answers_text (telling asked leg) (rounds_answers (rounds_for k (walk_plan leg) (live_counts leg said)) leg (live_counts leg said))

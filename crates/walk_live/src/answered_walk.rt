@@ -1,6 +1,6 @@
 //! A walk that is told what happens, and answers.
 ghost use Rattle.std.specs.Prelude.{◌≡◌, ◌<◌, ◌≤◌, ◌∷◌, ◌++◌, ◌+◌, ◌*◌, [], ℕ, List, OnOk, OnErr, IfOk};
-ghost use Rattle.std.specs.Prelude.{length, take};
+ghost use Rattle.std.specs.Prelude.{codes, decimal, length, take};
 ghost use Rattle.law_model.specs.Common.{AppendsPart, IsNetwork, Leg, most_lines, steps_in};
 ghost use Rattle.law_model.specs.declared.script_types.Config.{Config};
 ghost use Rattle.text_report.specs.ReportLines.{refused_text};
@@ -11,10 +11,10 @@ ghost use Rattle.terminal_group.specs.Item.{kind_of};
 ghost use Rattle.walk_engine.specs.walk_core.LiveWalking.{IsLive, LiveFinishes, LiveRounds, LiveStands};
 ghost use Rattle.walk_engine.specs.walk_core.LiveWalking.{walking_counts};
 ghost use Rattle.law_walk.specs.DeliveredFrames.{delivered_since};
-ghost use Rattle.walk_engine.specs.walk_core.WayParts.{windows_in};
+ghost use Rattle.walk_engine.specs.walk_core.WayParts.{waiting_in, windows_in};
 ghost use Rattle.walk_live.specs.Answered.{Answers, AnswersPart, IsAnswered, IsLegOf, WalksAs};
 ghost use Rattle.walk_live.specs.PassingRounds.{CanPass, CanRound, IsOtherwise, round_text, rounds_text, steps_text};
-ghost use Rattle.walk_live.specs.LiveReplies.{step_line};
+ghost use Rattle.walk_live.specs.LiveReplies.{queue_lines, step_line};
 ghost use Rattle.walk_live.specs.PassingRounds.{AreStates, HasStates};
 ghost use Rattle.walk_live.specs.TimedWriting.{timed_texts};
 ghost use Rattle.walk_live.specs.declared.asked.Asked.{Asked};
@@ -40,7 +40,9 @@ pub(crate) struct AnsweredWalk {
     lines: u8,
     /// How many items have landed.
     items: u32,
-    /// What is told of decision steps.
+    /// How many frames waited when the last pass was over.
+    waiting: u16,
+    /// What is told of decision steps and passes.
     tells: Asked,
 }
 
@@ -59,6 +61,7 @@ impl AnsweredWalk {
             walk,
             lines: config.lines,
             items: 0,
+            waiting: 0,
             tells,
         })
     }
@@ -112,7 +115,8 @@ impl AnsweredWalk {
     }
 
     /// Lets ticks pass: rounds are made until so many more ticks are. Answers the decision steps of each round where
-    /// they are asked, then the frames that come out with the ticks made by then, and last how many ticks have passed.
+    /// they are asked, then the frames that come out with the ticks made by then, then how many frames wait where that is
+    /// asked, and last how many ticks have passed.
     pub(crate) fn pass<K: ByteSink>(
         &mut self,
         ticks: u32,
@@ -134,7 +138,7 @@ impl AnsweredWalk {
     {
         let until = self.walk.ticks() + ticks;
         match self.make_rounds(until, block, out) {
-            Ok(()) => tell_now(until, block, out),
+            Ok(()) => self.end_pass(until, block, out),
             Err(Failed) => Err(Failed),
         }
     }
@@ -177,6 +181,29 @@ impl AnsweredWalk {
             }
         }
         Ok(())
+    }
+
+    /// Tells how many frames wait, where that is asked and isn't the number before, and how many ticks have passed.
+    fn end_pass<K: ByteSink>(
+        &mut self,
+        ticks: u32,
+        block: &mut TextBlock,
+        out: &mut K,
+    ) -> Result<(), Failed>
+        ensures same { self.new ≡ record self.old { waiting = self.new.waiting } }
+        ensures waits { (leg : Leg) → LiveStands leg self.old.walk →
+            self.new.waiting ≡ waiting_in leg (walking_counts self.old.walk) }
+        ensures told { OnOk result (Holds K.written K.faults out.old out.new block.new (block.old
+            ++ (queue_lines self.old.tells self.old.waiting self.new.waiting ++ now_text ticks))) }
+        ensures part { OnErr result (AppendsPart K.written K.faults out.old out.new (block.old
+            ++ (queue_lines self.old.tells self.old.waiting self.new.waiting ++ now_text ticks))) }
+    {
+        let before = self.waiting;
+        self.waiting = self.walk.waiting();
+        match tell_queue(self.tells, before, self.waiting, block, out) {
+            Ok(()) => tell_now(ticks, block, out),
+            Err(Failed) => Err(Failed),
+        }
     }
 
     /// Makes a round, and answers the decision step and the frames of it.
@@ -337,8 +364,8 @@ impl AnsweredWalk {
     }
 }
 
-/// Room for the line of how many ticks have passed, in octets.
-const NOW_ROOM: usize = 16;
+/// Room for a line of a word and a number, in octets.
+const NUMBER_ROOM: usize = 20;
 
 /// Adds the line of a refused item.
 fn tell_refused<K: ByteSink>(
@@ -357,6 +384,25 @@ fn tell_refused<K: ByteSink>(
     block.add(&line[..end], out)
 }
 
+/// Adds the line of how many frames wait, where that is asked and isn't the number before.
+fn tell_queue<K: ByteSink>(
+    tells: Asked,
+    before: u16,
+    waiting: u16,
+    block: &mut TextBlock,
+    out: &mut K,
+) -> Result<(), Failed>
+    ensures told { OnOk result (Holds K.written K.faults out.old out.new block.new
+        (block.old ++ queue_lines tells before waiting)) }
+    ensures part { OnErr result (AppendsPart K.written K.faults out.old out.new
+        (block.old ++ queue_lines tells before waiting)) }
+{
+    if tells != Asked::Members || waiting == before {
+        return Ok(());
+    }
+    tell_number(b"queue ", u32::from(waiting), block, out)
+}
+
 /// Adds the line of how many ticks have passed.
 fn tell_now<K: ByteSink>(ticks: u32, block: &mut TextBlock, out: &mut K) -> Result<(), Failed>
     ensures told { OnOk result (Holds K.written K.faults out.old out.new block.new
@@ -364,20 +410,36 @@ fn tell_now<K: ByteSink>(ticks: u32, block: &mut TextBlock, out: &mut K) -> Resu
     ensures part { OnErr result (AppendsPart K.written K.faults out.old out.new
         (block.old ++ now_text ticks)) }
 {
-    let mut line = [0u8; NOW_ROOM];
-    let end = now_line(ticks, &mut line);
+    tell_number(b"now ", ticks, block, out)
+}
+
+/// Adds a line of a word and a number.
+fn tell_number<K: ByteSink>(
+    word: &[u8],
+    number: u32,
+    block: &mut TextBlock,
+    out: &mut K,
+) -> Result<(), Failed>
+    requires { length word.now ≤ 6 }
+    ensures told { OnOk result (Holds K.written K.faults out.old out.new block.new
+        (block.old ++ (word.now ++ decimal number ++ codes "\n"))) }
+    ensures part { OnErr result (AppendsPart K.written K.faults out.old out.new
+        (block.old ++ (word.now ++ decimal number ++ codes "\n"))) }
+{
+    let mut line = [0u8; NUMBER_ROOM];
+    let end = number_line(word, number, &mut line);
     block.add(&line[..end], out)
 }
 
-/// Writes the line of how many ticks have passed.
-fn now_line(ticks: u32, out: &mut [u8]) -> usize
-    requires room { 16 ≤ length out.old }
-    ensures within { result ≤ 16 }
-    ensures line { take result out.new ≡ now_text ticks }
+/// Writes that line.
+fn number_line(word: &[u8], number: u32, out: &mut [u8]) -> usize
+    requires short { length word.now ≤ 6 }
+    requires room { 20 ≤ length out.old }
+    ensures within { result ≤ 20 }
+    ensures line { take result out.new ≡ word.now ++ decimal number ++ codes "\n" }
 {
     let mut line = TextCursor::new(out);
-    line.text(b"now ");
-    line.decimal(ticks);
+    line.number(word, number);
     line.text(b"\n");
     line.end()
 }

@@ -10,7 +10,7 @@ use command_parts::{Ran, Stop, talk};
 use octet_io::{ByteSink, ByteSource};
 use std::alloc::{AllocError, Global};
 
-/// Answers a live text, with what is asked for of its decision steps. A line is answered once its LF has
+/// Answers a live text, with what is asked for of its decision steps and passes. A line is answered once its LF has
 /// come, and what is answered to the lines that have come is put on `out` before more is read. Want of memory is
 /// told only before anything is written.
 pub fn live<S: ByteSource, K: ByteSink>(

@@ -7,7 +7,7 @@ ghost use Rattle.law_model.specs.Common.{frame_of, vc4_size, IsStatuses, most_li
 ghost use Rattle.member_cells.specs.HeldPlaces.{held};
 ghost use Rattle.terminal_source.specs.source_core.Terminal.{needed, SameKind};
 ghost use Rattle.terminal_source.specs.source_core.GivenScenario.{with_frame, with_command, with_cell, with_told};
-ghost use Rattle.terminal_source.specs.source_core.GivenScenario.{IsFresh, SourceStands};
+ghost use Rattle.terminal_source.specs.source_core.GivenScenario.{IsFresh, SourceStands, stream_now};
 
 use crate::lcas_source::{CommandFault, SourceTable};
 use crate::source_core::container_frame::{begin_all, fill_all};
@@ -149,6 +149,17 @@ impl SourceCore {
         ensures { result ≡ refusal self.now.lines command self.now.table.source }
     {
         self.table.refusal(command)
+    }
+
+    /// How many frames wait, at most 256: those that were accepted and of which no octet is made.
+    pub fn waiting(&self) -> u16
+        ensures count { result ≡ length self.now.queue.waiting }
+        ensures most { result ≤ 256 }
+        ensures stream { (scenario : Scenario) (cells : List (Option Told)) →
+            SourceStands self.now scenario cells →
+            result ≡ length (stream_now scenario cells self.now.ticks).waiting }
+    {
+        self.queue.waiting()
     }
 
     /// The number of the return cell that the next tick takes. It takes one exactly where it makes decision

@@ -2,7 +2,7 @@
 use Rattle.std.specs.Prelude.{◌≡◌, ℕ, ◌+◌, ◌-◌, ◌%◌, ◌<◌, ◌≤◌, min, List, [], map, length, take, slice_get}
 use Rattle.std.specs.Prelude.{slice_index_or, Option, Some, None}
 use Rattle.std.specs.Global.{Vec, Box}
-use Rattle.law_model.specs.Common.{Container, Leg, Scenario, steps_in, IsSound, LineCounts, Counts}
+use Rattle.law_model.specs.Common.{Container, Leg, Scenario, steps_in, IsSound, LineCounts, Counts, offers_of, scenario_by}
 use Rattle.member_cells.specs.HeldPlaces.{held}
 use Rattle.law_model.specs.declared.window_types.Window.{Window}
 use Rattle.law_model.specs.members.Damage.{carried}
@@ -14,7 +14,7 @@ use Rattle.terminal_source.specs.source_core.GivenScenario.{SourceStands as HasM
 use Rattle.terminal_sink.specs.sink_core.Core.{Core, SinkStands as HasTaken}
 use Rattle.law_walk.specs.Common.{IsWalked, counts_at, popped_cells, sent_at, delay_on, taken_by, return_ring, inbox}
 use Rattle.law_walk.specs.Common.{landed_scenario, told_before, refusals_of, totals_of, delivered_of}
-use Rattle.law_walk.specs.Common.{cell_taken}
+use Rattle.law_walk.specs.Common.{cell_taken, session_of, stream_met}
 use Rattle.terminal_group.specs.Item.{bare_items}
 use Rattle.terminal_group.specs.Landed.{Landed}
 use Rattle.terminal_group.specs.SourceByCounts.{Counted}
@@ -132,6 +132,11 @@ pub record HasBack (leg : Leg) (s : Counts) (back : Return) : Type 0 where
   pub lost : back.lost ≡ leg.config.lost
   pub inbox : back.inbox ≡ inbox leg s
   pub room : back.room ≡ leg.config.lag + 1
+
+-- how many frames wait, as the next one finds it that lands now
+abbrev pub waiting_in : Leg → Counts → ℕ
+waiting_in leg s =
+    length (stream_met (scenario_by leg) (session_of leg) s.ticks (take s.frames (offers_of leg.items))).waiting
 
 -- how many items were refused
 pub record HasCounted (leg : Leg) (s : Counts) (landed : LandedCounts) : Type 0 where

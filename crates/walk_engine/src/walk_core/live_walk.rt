@@ -15,7 +15,7 @@ ghost use Rattle.walk_engine.specs.walk_core.LiveWalking.{LiveFinishes};
 ghost use Rattle.walk_engine.specs.walk_core.LiveWalking.{LiveRounds, LiveStands, walking_counts};
 ghost use Rattle.walk_engine.specs.walk_core.WalkAfterEvent.{answer_by, refusal_in_event, GivesRows};
 ghost use Rattle.walk_engine.specs.walk_core.OpenedWay.{HasWindows};
-ghost use Rattle.walk_engine.specs.walk_core.WayParts.{note_of, windows_in};
+ghost use Rattle.walk_engine.specs.walk_core.WayParts.{note_of, waiting_in, windows_in};
 ghost use Rattle.walk_engine.specs.walk_core.Take.{take_cause};
 ghost use Rattle.walk_engine.specs.walk_core.EventAnswers.{IsDue, IsNoneHeld};
 
@@ -161,6 +161,15 @@ impl LiveWalk {
         ensures { result ≡ (walking_counts self.now).rows }
     {
         self.way.taken()
+    }
+
+    /// How many frames wait, at most 256: those that were accepted and of which no octet is made.
+    pub fn waiting(&self) -> u16
+        ensures most { result ≤ 256 }
+        ensures waits { (leg : Leg) → LiveStands leg self.now →
+            result ≡ waiting_in leg (walking_counts self.now) }
+    {
+        self.way.waiting()
     }
 
     /// What came of the walk so far, in numbers.

@@ -20,7 +20,8 @@ ghost use Rattle.walk_engine.specs.walk_core.Landing.{landing_of};
 ghost use Rattle.walk_engine.specs.walk_core.WalkAfterEvent.{answer_by, refusal_in_event, GivesRows};
 ghost use Rattle.walk_engine.specs.declared.walk_core.step_answers.Moved.TheVariants.{Yes};
 ghost use Rattle.walk_engine.specs.walk_core.OpenedWay.{HasWindows, IsNew, IsAlike};
-ghost use Rattle.walk_engine.specs.walk_core.WayParts.{counts_of, line_counts, windows_in, WayStands, StandsForSome};
+ghost use Rattle.walk_engine.specs.walk_core.WayParts.{counts_of, line_counts, waiting_in, windows_in};
+ghost use Rattle.walk_engine.specs.walk_core.WayParts.{StandsForSome, WayStands};
 ghost use Rattle.walk_engine.specs.walk_core.Take.{take_cause};
 ghost use Rattle.walk_engine.specs.walk_core.EventAnswers.{Makes, IsDue, with_passed, CanTick, Takes};
 
@@ -135,6 +136,15 @@ impl WayCore {
         ensures steps { result.now.steps ≡ steps_in self.now.source.core.ticks }
     {
         self.source.table()
+    }
+
+    /// How many frames wait, at most 256: those that were accepted and of which no octet is made.
+    pub fn waiting(&self) -> u16
+        ensures most { result ≤ 256 }
+        ensures waits { (leg : Leg) (backs : ℕ) → WayStands leg backs self.now →
+            result ≡ waiting_in leg (counts_of self.now backs) }
+    {
+        self.source.waiting()
     }
 
     /// The packets that were read with the last packet row that was taken, by line. A line has none where it

@@ -13,7 +13,7 @@ use Rattle.walk_live.proofs.answered_walk.AnsweredWalk.make_rounds.Goals as goal
 
 pub loop-self-init : goal.loop-self-init
 loop-self-init g c = record {
-  same = record { lines = refl; items = refl; tells = refl };
+  same = record { lines = refl; items = refl; waiting = refl; tells = refl };
   windows = refl;
   rounds = λ asked config said k can leg more.
       let less = leg-less config said (passes k ∷ []) leg can.well more in

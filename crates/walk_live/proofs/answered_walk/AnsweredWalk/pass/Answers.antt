@@ -1,10 +1,12 @@
--- The rounds, and then how many ticks have passed.
-use Rattle.std.proofs.Common.{ℕ, ◌+◌, ◌++◌, List, ◌∙◌, ap, arith, subst}
+-- The rounds, and then how many frames wait and how many ticks have passed.
+use Rattle.std.proofs.Common.{ℕ, ◌+◌, [], ◌∷◌, ◌++◌, List, ◌∙◌, ap, arith, subst, sym}
 use Rattle.std.proofs.lemmas.Result.{on_err_weaker, on_ok_weaker}
 use Rattle.law_model.specs.Common.{AppendsPart}
-use Rattle.law_live.specs.Common.{now_text}
+use Rattle.law_live.specs.Common.{passes}
 use Rattle.text_got.specs.TextSoFar.{Holds}
+use Rattle.walk_live.specs.Answered.{IsAnswered}
 use Rattle.walk_live.proofs.AnsweredWalkAndSayingLaws.{can-pass, now-ticks, pass-answer, pass-answered, pass-few}
+use Rattle.walk_live.proofs.AnsweredWalkAndSayingLaws.{pass-whole, pass_rest}
 use Rattle.walk_live.proofs.TimedLineWritingLaws.{holds-more, part-longer, part-more}
 use Rattle.walk_live.proofs.answered_walk.AnsweredWalk.pass.Goals as goal
 
@@ -32,19 +34,24 @@ returns-in-Ok-clause-answers g c asked config said is well =
     let self = c.args.self.now in
     let can = can-pass self asked config said is c.args.ticks well (c.ticks.result + c.args.ticks)
     (ap (λ n. n + c.args.ticks) c.ticks.ensures) in
-    let P : List ℕ → Type 0 = λ text. Holds g.K.ByteSink.written g.K.ByteSink.faults c.args.out.now c.tell_now.new.out
-    c.tell_now.new.block (c.args.block.now ++ text) in
-    on_ok_weaker c.tell_now.result
+    let made = c.make_rounds.new.self in
+    let now = c.end_pass.new.self in
+    let walks = c.in-Ok.ensures.walks asked config said c.args.ticks can in
+    let P : List ℕ → Type 0 = λ text. Holds g.K.ByteSink.written g.K.ByteSink.faults c.args.out.now c.end_pass.new.out
+    c.end_pass.new.block (c.args.block.now ++ text) in
+    on_ok_weaker c.end_pass.result
     (λ told. record {
-      is = pass-answered self asked config said is c.args.ticks well c.make_rounds.new.self c.make_rounds.ensures.same
-          (c.in-Ok.ensures.walks asked config said c.args.ticks can);
+      is = subst (λ walk. IsAnswered walk asked config (said ++ passes c.args.ticks ∷ [])) (sym c.end_pass.ensures.same)
+          (pass-answered self asked config said is c.args.ticks well made now.waiting c.make_rounds.ensures.same walks
+          c.end_pass.ensures.waits);
       holds = subst P
-          (pass-answer self asked config said is c.args.ticks well (c.ticks.result + c.args.ticks) can.ends)
-          (holds-more g.K.ByteSink.written g.K.ByteSink.faults c.args.out.now c.make_rounds.new.out c.tell_now.new.out
-          c.args.block.now c.make_rounds.new.block c.tell_now.new.block _ _
+          (pass-answer self asked config said is c.args.ticks well made (c.ticks.result + c.args.ticks) now.waiting can.ends
+          c.make_rounds.ensures.same walks c.end_pass.ensures.waits)
+          (holds-more g.K.ByteSink.written g.K.ByteSink.faults c.args.out.now c.make_rounds.new.out c.end_pass.new.out
+          c.args.block.now c.make_rounds.new.block c.end_pass.new.block _ _
           (c.in-Ok.ensures.told asked config said c.args.ticks can) told);
     })
-    c.tell_now.ensures.told
+    c.end_pass.ensures.told
 
 pub returns-in-Ok-clause-part : goal.returns-in-Ok-clause-part
 returns-in-Ok-clause-part g c asked config said is well =
@@ -52,21 +59,24 @@ returns-in-Ok-clause-part g c asked config said is well =
     let can = can-pass self asked config said is c.args.ticks well (c.ticks.result + c.args.ticks)
     (ap (λ n. n + c.args.ticks) c.ticks.ensures) in
     let P : List ℕ → Type 0 = λ text. AppendsPart g.K.ByteSink.written g.K.ByteSink.faults c.args.out.now
-    c.tell_now.new.out (c.args.block.now ++ text) in
-    on_err_weaker c.tell_now.result
+    c.end_pass.new.out (c.args.block.now ++ text) in
+    on_err_weaker c.end_pass.result
     (λ stops. subst P
-    (pass-answer self asked config said is c.args.ticks well (c.ticks.result + c.args.ticks) can.ends)
-    (part-more g.K.ByteSink.written g.K.ByteSink.faults c.args.out.now c.make_rounds.new.out c.tell_now.new.out
+    (pass-answer self asked config said is c.args.ticks well c.make_rounds.new.self (c.ticks.result + c.args.ticks)
+    c.end_pass.new.self.waiting can.ends c.make_rounds.ensures.same
+    (c.in-Ok.ensures.walks asked config said c.args.ticks can) c.end_pass.ensures.waits)
+    (part-more g.K.ByteSink.written g.K.ByteSink.faults c.args.out.now c.make_rounds.new.out c.end_pass.new.out
     c.args.block.now c.make_rounds.new.block _ _ (c.in-Ok.ensures.told asked config said c.args.ticks can) stops))
-    c.tell_now.ensures.part
+    c.end_pass.ensures.part
 
 pub returns-in-Err-clause-part : goal.returns-in-Err-clause-part
 returns-in-Err-clause-part g c asked config said is well =
     let self = c.args.self.now in
-    let can = can-pass self asked config said is c.args.ticks well (c.ticks.result + c.args.ticks)
-    (ap (λ n. n + c.args.ticks) c.ticks.ensures) in
+    let until : ℕ = c.ticks.result + c.args.ticks in
+    let can = can-pass self asked config said is c.args.ticks well until (ap (λ n. n + c.args.ticks) c.ticks.ensures) in
     let P : List ℕ → Type 0 = λ text. AppendsPart g.K.ByteSink.written g.K.ByteSink.faults c.args.out.now
     c.make_rounds.new.out (c.args.block.now ++ text) in
-    subst P (pass-answer self asked config said is c.args.ticks well (c.ticks.result + c.args.ticks) can.ends)
+    subst P (pass-whole self asked config said is c.args.ticks well until can.ends)
     (part-longer g.K.ByteSink.written g.K.ByteSink.faults c.args.out.now c.make_rounds.new.out c.args.block.now _
-    (now_text (c.ticks.result + c.args.ticks)) (c.in-Err.ensures.part asked config said c.args.ticks can))
+    (pass_rest self asked config said is c.args.ticks well until)
+    (c.in-Err.ensures.part asked config said c.args.ticks can))
