@@ -55,7 +55,7 @@ pub enum WalkCommand {
     /// `pair there`, `pair back`: write the script of one way of two scripts.
     OneWay { way: Way },
     /// `live`: answer a live text as it comes; `live trace`: with a line for each decision step; `live told`: with
-    /// one for each line of the group whose code is another one than before.
+    /// one for each line of the group whose code is another one than before, and how many frames wait.
     Live { tells: Asked },
     /// `make`: make the walk of the load of a number, of 1 to 64 lines and 1 to 1,000,000 ticks.
     Make { number: u64, lines: u8, ticks: u32 },

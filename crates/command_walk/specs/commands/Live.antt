@@ -15,7 +15,7 @@ abbrev pub asks : List ℕ → List (List ℕ) → Bool
 asks what words =
     length words == 2 && (bytes_eq (word_at 0 words) (codes "live") && bytes_eq (word_at 1 words) what)
 
--- with nothing of decision steps, with a line for each, or with what they change
+-- with nothing of decision steps, with a line for each, or with what they change and how many frames wait
 abbrev pub live_words : List (List ℕ) → Option WalkCommand
 live_words words =
     if is_word (codes "live") words then Some (Live Nothing)
