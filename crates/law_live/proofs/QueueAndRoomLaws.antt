@@ -1,6 +1,6 @@
 -- What the lines of the queue tell (queues_told), and how many frames may be said by what is reckoned of them (reckoned).
 use Rattle.std.proofs.Common.{◌≡◌, ℕ, zero, suc, ◌+◌, ◌<◌, ◌≤◌, ◌==◌, ◌||◌, nat_le, nat_lt, true, false, inl, inr, List}
-use Rattle.std.proofs.Common.{[], ◌∷◌, ◌++◌, map, filter, fold, length, if◌then◌else◌, Option, Some, None, option_map}
+use Rattle.std.proofs.Common.{[], ◌∷◌, ◌++◌, map, filter, fold, length, take, if◌then◌else◌, Option, Some, None, option_map}
 use Rattle.std.proofs.Common.{refl, sym, ◌∙◌, ap, ap₂, subst, arith, append-nil, length-append, All, leb-false}
 use Rattle.std.proofs.Math.Seq.{take-append_seam}
 use Rattle.std.proofs.lemmas.Bool.{cases_Bool, eqb-false, eqb-true}
