@@ -1,21 +1,21 @@
 -- What is told of a decision step: nothing, its line, or the lines of members whose codes are others than before.
 use Rattle.std.proofs.Common.{◌≡◌, ℕ, zero, suc, ◌+◌, ◌-◌, ◌*◌, ◌<◌, ◌≤◌, nat_lt, true, false, inl, inr, List, []}
 use Rattle.std.proofs.Common.{◌++◌, length, slice_index_or, Some, refl, sym, ◌∙◌, ap, ap₂, subst, arith, append-nil}
-use Rattle.std.proofs.Common.{append_assoc, codes, decimal, length-append, bytes_eq, ◌==◌, ◌⊎◌}
-use Rattle.std.proofs.lemmas.Bool.{cases_Bool, eq-eqb, lt-ltb}
+use Rattle.std.proofs.Common.{append_assoc, length-append, bytes_eq}
+use Rattle.std.proofs.lemmas.Bool.{cases_Bool, lt-ltb}
 use Rattle.std.proofs.lemmas.Grind.{flat_map-append}
 use Rattle.law_model.specs.Common.{Leg, Table, after, scenario_by, state_of, steps_in}
 use Rattle.law_model.specs.declared.lcas_states.SourceState.{SourceState}
 use Rattle.law_model.specs.declared.lcas_states.SourceState.TheVariants.{Idle}
 use Rattle.law_walk.specs.Common.{cell_taken, last_packet, session_of, table_in}
-use Rattle.law_live.specs.Common.{code_at, member_code, member_text, members_text, queue_text, told_among, told_of}
+use Rattle.law_live.specs.Common.{code_at, member_code, member_text, members_text, told_among, told_of}
 use Rattle.law_live.proofs.ToldMemberLaws.{among-more, among-none}
 use Rattle.text_captures.specs.packet_trace.StepText.{step_text}
 use Rattle.text_report.specs.TextCursor.{Extends, text_of}
 use Rattle.text_report.specs.declared.text_cursor.TextCursor.{TextCursor}
 use Rattle.walk_engine.specs.declared.walk_core.step_answers.StepNote.{StepNote}
 use Rattle.walk_engine.specs.walk_core.WayParts.{note_of}
-use Rattle.walk_live.specs.LiveReplies.{queue_lines, step_line}
+use Rattle.walk_live.specs.LiveReplies.{step_line}
 use Rattle.walk_live.specs.PassingRounds.{AreStates, HasStates, steps_text}
 use Rattle.walk_live.specs.declared.asked.Asked.{Asked}
 use Rattle.walk_live.specs.declared.asked.Asked.TheVariants.{Nothing, Steps, Members}
@@ -129,16 +129,3 @@ states-before asked leg lines was now states is one most has =
 
 pub step-tick : (was now : ℕ) → steps_in now ≡ steps_in was + 1 → now ≤ was + 1 → now ≡ 16 * steps_in was + 9
 step-tick was now one most = omega (arith, one, most)
-
--- ---- how many frames wait
-pub queue-untold : (asked : Asked) (was now : ℕ) → (asked ≡ Members → ⊥) ⊎ now ≡ was → queue_lines asked was now ≡ []
-queue-untold Nothing was now none = refl
-queue-untold Steps was now none = refl
-queue-untold Members was now (inl other) = absurd (other refl)
-queue-untold Members was now (inr same) = let e : (now == was) ≡ true = eq-eqb now was same in rw e refl
-
-pub queue-told : (asked : Asked) (was now : ℕ) → asked ≡ Members → (now ≡ was → ⊥) →
-    codes "queue " ++ decimal now ++ codes "\n" ≡ queue_lines asked was now
-queue-told asked was now is other =
-    let e : (now == was) ≡ false = grind (arith, other) in
-    sym (ap (λ a. queue_lines a was now) is ∙ rw e (append-nil (queue_text now)))

@@ -115,8 +115,8 @@ impl AnsweredWalk {
     }
 
     /// Lets ticks pass: rounds are made until so many more ticks are. Answers the decision steps of each round where
-    /// they are asked, then the frames that come out with the ticks made by then, then how many frames wait where that is
-    /// asked, and last how many ticks have passed.
+    /// they are asked, then the frames that come out with the ticks made by then, then how many frames wait where that
+    /// is asked, and last how many ticks have passed.
     pub(crate) fn pass<K: ByteSink>(
         &mut self,
         ticks: u32,
