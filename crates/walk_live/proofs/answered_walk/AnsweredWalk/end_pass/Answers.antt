@@ -1,5 +1,4 @@
 -- The line of the queue, and then that of the ticks.
-use Rattle.std.proofs.Common.{ℕ, List, ◌++◌}
 use Rattle.std.proofs.lemmas.Result.{on_err_weaker, on_ok_weaker}
 use Rattle.law_live.specs.Common.{now_text}
 use Rattle.walk_live.proofs.TimedLineWritingLaws.{holds-more, part-longer, part-more}
