@@ -30,15 +30,15 @@ use Rattle.law_live.proofs.ConversationCountAndScriptLaws.{Stands, fits-after, l
 -- What the answers tell is what a walk reports: the frames in order, the refused items in order, and the ticks that are
 -- made.
 -- ---- an item tells nothing but that it is refused
-got-refused : (number : ℕ) (why : Option Refusal) → frames_got (refused_answer number why) ≡ []
+pub got-refused : (number : ℕ) (why : Option Refusal) → frames_got (refused_answer number why) ≡ []
 got-refused number None = refl
 got-refused number (Some why) = refl
 
-times-refused : (number : ℕ) (why : Option Refusal) → times_told (refused_answer number why) ≡ []
+pub times-refused : (number : ℕ) (why : Option Refusal) → times_told (refused_answer number why) ≡ []
 times-refused number None = refl
 times-refused number (Some why) = refl
 
-steps-refused : (number : ℕ) (why : Option Refusal) → steps_made (refused_answer number why) ≡ []
+pub steps-refused : (number : ℕ) (why : Option Refusal) → steps_made (refused_answer number why) ≡ []
 steps-refused number None = refl
 steps-refused number (Some why) = refl
 
@@ -51,7 +51,7 @@ got-step : (made : Bool) (j : ℕ) → frames_got (if made then step_made j ∷ 
 got-step true j = refl
 got-step false j = refl
 
-refused-step : (made : Bool) (j : ℕ) → items_refused (if made then step_made j ∷ [] else []) ≡ []
+pub refused-step : (made : Bool) (j : ℕ) → items_refused (if made then step_made j ∷ [] else []) ≡ []
 refused-step true j = refl
 refused-step false j = refl
 
@@ -60,7 +60,7 @@ got-frames : (ticks : ℕ) (frames : List (List ℕ)) → frames_got (map (got_a
 got-frames ticks [] = refl
 got-frames ticks (frame ∷ frames) = ap (λ l. frame ∷ l) (got-frames ticks frames)
 
-refused-frames : (ticks : ℕ) (frames : List (List ℕ)) → items_refused (map (got_at ticks) frames) ≡ []
+pub refused-frames : (ticks : ℕ) (frames : List (List ℕ)) → items_refused (map (got_at ticks) frames) ≡ []
 refused-frames ticks [] = refl
 refused-frames ticks (frame ∷ frames) = refused-frames ticks frames
 
@@ -68,13 +68,13 @@ steps-frames : (ticks : ℕ) (frames : List (List ℕ)) → steps_made (map (got
 steps-frames ticks [] = refl
 steps-frames ticks (frame ∷ frames) = steps-frames ticks frames
 
-times-frames : (ticks : ℕ) (frames : List (List ℕ)) → Rises ticks ticks (times_told (map (got_at ticks) frames))
+pub times-frames : (ticks : ℕ) (frames : List (List ℕ)) → Rises ticks ticks (times_told (map (got_at ticks) frames))
 unfolding Rises
 times-frames ticks [] = omega arith
 times-frames ticks (frame ∷ frames) = (omega arith, times-frames ticks frames)
 
 -- ---- the frames
-grown : (leg : Leg) (was now : ℕ) → was ≤ now →
+pub grown : (leg : Leg) (was now : ℕ) → was ≤ now →
     delivered_of leg was ++ delivered_since leg was now ≡ delivered_of leg now
 grown leg was now low =
     let e : was + (now - was) ≡ now = omega (arith, low) in
@@ -82,7 +82,7 @@ grown leg was now low =
     ≡ delivered_of leg was ++ drop (length (delivered_of leg was)) (delivered_of leg n)) e
     (frames-grow leg was (now - was)))
 
-got-round : (leg : Leg) (was now : Counts) →
+pub got-round : (leg : Leg) (was now : Counts) →
     frames_got (round_answers leg was now) ≡ delivered_since leg was.rows now.rows
 got-round leg was now =
     flat_map-append got_of (steps_between was.ticks now.ticks)
@@ -179,7 +179,7 @@ dues-size [] = refl
 dues-size (frame_due due ∷ items) = let rest = dues-size items in omega (arith, rest)
 dues-size (command_due due ∷ items) = let rest = dues-size items in omega (arith, rest)
 
-refused-item : (leg : Leg) (live : Live) (s : Counts) (kind : ItemKind) → Stands live s →
+pub refused-item : (leg : Leg) (live : Live) (s : Counts) (kind : ItemKind) → Stands live s →
     refusals_among leg (numbered 0 live.items) ++ items_refused (item_answers leg s kind)
     ≡ refusals_among leg (numbered 0 (live_after live (lands kind)).items)
 refused-item leg live s kind stands =
@@ -233,12 +233,12 @@ module _ (leg : Leg) (slow fast slip : ℕ) (is : IsPlanOf slow fast slip (walk_
       (fits-after leg slow fast slip is s saying fits) more
 
 -- ---- the ticks
-rises-from : (first from to : ℕ) (times : List ℕ) → first ≤ from → Rises from to times → Rises first to times
+pub rises-from : (first from to : ℕ) (times : List ℕ) → first ≤ from → Rises from to times → Rises first to times
 unfolding Rises
 rises-from first from to [] low rises = omega (arith, low, rises)
 rises-from first from to (t ∷ times) low rises = (let h = rises.0 in omega (arith, low, h), rises.1)
 
-rises-append : (a b c : ℕ) (xs ys : List ℕ) → Rises a b xs → Rises b c ys → Rises a c (xs ++ ys)
+pub rises-append : (a b c : ℕ) (xs ys : List ℕ) → Rises a b xs → Rises b c ys → Rises a c (xs ++ ys)
 unfolding Rises
 rises-append a b c [] ys first second = rises-from a b c ys first second
 rises-append a b c (t ∷ xs) ys first second = (first.0, rises-append t b c xs ys first.1 second)
@@ -320,10 +320,10 @@ times-all (saying ∷ said) leg s =
     (times_told (answers_from leg next said)) (times-to leg s saying) (times-all said leg next))
 
 -- ---- decision steps
-abbrev steps_to : ℕ → List ℕ
+abbrev pub steps_to : ℕ → List ℕ
 steps_to ticks = range_with_len 0 (steps_in ticks)
 
-steps-round : (leg : Leg) (was now : Counts) → was.ticks ≤ now.ticks → now.ticks ≤ was.ticks + 1 →
+pub steps-round : (leg : Leg) (was now : Counts) → was.ticks ≤ now.ticks → now.ticks ≤ was.ticks + 1 →
     steps_to was.ticks ++ steps_made (round_answers leg was now) ≡ steps_to now.ticks
 steps-round leg was now up most =
     let frames : List (List ℕ) = delivered_since leg was.rows now.rows in

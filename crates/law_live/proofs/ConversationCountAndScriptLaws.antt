@@ -234,7 +234,7 @@ item-lands leg live s (Frame octets) stands more = frame-lands leg live s octets
 item-lands leg live s (Add line) stands more = command-lands leg live s (Add line) refl stands more
 item-lands leg live s (Remove line) stands more = command-lands leg live s (Remove line) refl stands more
 
-stands-landed : (live : Live) (s : Counts) (kind : ItemKind) → Stands live s →
+pub stands-landed : (live : Live) (s : Counts) (kind : ItemKind) → Stands live s →
     Stands (live_after live (lands kind)) (landed_by kind s)
 unfolding frame_dues command_dues
 stands-landed live s kind stands = by-kind kind

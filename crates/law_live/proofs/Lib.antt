@@ -1,5 +1,14 @@
 pub mod AgreeingLegConversationLaws
 pub mod AnsweredFrameAndRefusalLaws
+pub mod BothWaysAnswerLaws
+pub mod BothWaysCountLaws
+pub mod BothWaysRoomLaws
+pub mod BothWaysRoundLaws
+pub mod BothWaysSameAnswerLaws
+pub mod BothWaysSamePastLaws
+pub mod BothWaysSharedLaws
+pub mod BothWaysTurnLaws
+pub mod BothWaysWalkLaws
 pub mod ConversationCountAndScriptLaws
 pub mod LiveRoundAndLandingLaws
 pub mod QueueAndRoomLaws

@@ -1,6 +1,6 @@
 -- What the lines of the queue tell (queues_told), and how many frames may be said by what is reckoned of them (reckoned).
 use Rattle.std.proofs.Common.{◌≡◌, ℕ, zero, suc, ◌+◌, ◌<◌, ◌≤◌, ◌==◌, ◌||◌, nat_le, nat_lt, true, false, inl, inr, List}
-use Rattle.std.proofs.Common.{[], ◌∷◌, ◌++◌, map, filter, fold, length, take, if◌then◌else◌, Option, Some, None, option_map}
+use Rattle.std.proofs.Common.{take, [], ◌∷◌, ◌++◌, map, filter, fold, length, if◌then◌else◌, Option, Some, None, option_map}
 use Rattle.std.proofs.Common.{refl, sym, ◌∙◌, ap, ap₂, subst, arith, append-nil, length-append, All, leb-false}
 use Rattle.std.proofs.Math.Seq.{take-append_seam}
 use Rattle.std.proofs.lemmas.Bool.{cases_Bool, eqb-false, eqb-true}
@@ -117,23 +117,23 @@ others-more was [] ys first second = second
 others-more was (number ∷ xs) ys first second = (first.0, others-more number xs ys first.1 second)
 
 -- from some ticks to others these are told
-record Tells (leg : Leg) (was now : ℕ) (queues : List ℕ) : Type 0 where
-  others : AreOthers (waiting_at leg was) queues
-  last : last_number (waiting_at leg was) queues ≡ waiting_at leg now
+pub record Tells (leg : Leg) (was now : ℕ) (queues : List ℕ) : Type 0 where
+  pub others : AreOthers (waiting_at leg was) queues
+  pub last : last_number (waiting_at leg was) queues ≡ waiting_at leg now
 
-tells-none : (leg : Leg) (was now : ℕ) (queues : List ℕ) → queues ≡ [] → was ≡ now → Tells leg was now queues
+pub tells-none : (leg : Leg) (was now : ℕ) (queues : List ℕ) → queues ≡ [] → was ≡ now → Tells leg was now queues
 unfolding AreOthers last_number
 tells-none leg was now queues none same =
     subst (Tells leg was now) (sym none) (record { others = tt; last = ap (waiting_at leg) same })
 
-tells-since : (leg : Leg) (was now : ℕ) → Tells leg was now (changed_number (waiting_at leg was) (waiting_at leg now))
+pub tells-since : (leg : Leg) (was now : ℕ) → Tells leg was now (changed_number (waiting_at leg was) (waiting_at leg now))
 unfolding AreOthers last_number
 tells-since leg was now = elim (cases_Bool (waiting_at leg now == waiting_at leg was)) [
   | inl e ↦ rw e (record { others = tt; last = sym (eqb-true (waiting_at leg now) (waiting_at leg was) e) })
   | inr e ↦ rw e (record { others = (eqb-false (waiting_at leg now) (waiting_at leg was) e, tt); last = refl })
 ]
 
-tells-more : (leg : Leg) (a b c : ℕ) (xs ys : List ℕ) → Tells leg a b xs → Tells leg b c ys → Tells leg a c (xs ++ ys)
+pub tells-more : (leg : Leg) (a b c : ℕ) (xs ys : List ℕ) → Tells leg a b xs → Tells leg b c ys → Tells leg a c (xs ++ ys)
 tells-more leg a b c xs ys first second = record {
   others = others-more (waiting_at leg a) xs ys first.others
       (subst (λ n. AreOthers n ys) (sym first.last) second.others);
@@ -141,10 +141,10 @@ tells-more leg a b c xs ys first second = record {
 }
 
 -- ---- what is answered to a saying
-queues-step : (was now : ℕ) → queues_told (steps_between was now) ≡ []
+pub queues-step : (was now : ℕ) → queues_told (steps_between was now) ≡ []
 queues-step was now = elim (cases_Bool (nat_lt (steps_in was) (steps_in now))) [ inl e ↦ rw e refl | inr e ↦ rw e refl ]
 
-queues-frames : (ticks : ℕ) (frames : List (List ℕ)) → queues_told (map (got_at ticks) frames) ≡ []
+pub queues-frames : (ticks : ℕ) (frames : List (List ℕ)) → queues_told (map (got_at ticks) frames) ≡ []
 queues-frames ticks [] = refl
 queues-frames ticks (frame ∷ frames) = queues-frames ticks frames
 
@@ -160,7 +160,7 @@ queues-rounds (suc n) leg s =
     ∙ ap₂ ◌++◌ (queues-step s.ticks next.ticks) (queues-frames next.ticks frames))
     (queues-rounds n leg next)
 
-queues-refused : (number : ℕ) (why : Option Refusal) → queues_told (refused_answer number why) ≡ []
+pub queues-refused : (number : ℕ) (why : Option Refusal) → queues_told (refused_answer number why) ≡ []
 queues-refused number None = refl
 queues-refused number (Some why) = refl
 
@@ -204,12 +204,12 @@ queues-last leg said =
 
 -- ---- how many wait beside those that were said since
 -- the stream as the next frame finds it
-abbrev met : Leg → Live → Stream
+abbrev pub met : Leg → Live → Stream
 met leg live = stream_met (scenario_by leg) (session_of leg) live.passed (offers_of live.items)
 
-record Reckons (leg : Leg) (live : Live) (s : Counts) (is : Reckoned) : Type 0 where
-  queue : is.queue ≡ waiting_at leg s.ticks
-  sum : length (met leg live).waiting ≡ is.queue + is.since
+pub record Reckons (leg : Leg) (live : Live) (s : Counts) (is : Reckoned) : Type 0 where
+  pub queue : is.queue ≡ waiting_at leg s.ticks
+  pub sum : length (met leg live).waiting ≡ is.queue + is.since
 
 -- ---- an item
 abbrev given : ItemKind → Stream → Stream
@@ -253,13 +253,13 @@ offered-waits number octets stream None = length-append stream.waiting (octets �
 offered-waits number octets stream (Some why) = omega arith
 
 -- why it is refused
-next-refusal : (leg : Leg) (live : Live) (s : Counts) (octets : List ℕ) → Stands live s → HasLater live leg.items →
+pub next-refusal : (leg : Leg) (live : Live) (s : Counts) (octets : List ℕ) → Stands live s → HasLater live leg.items →
     refusal_at leg (next_item s (Frame octets)) ≡ option_map frame_fault (frame_refusal octets (met leg live))
 next-refusal leg live s octets stands more =
     ap₂ (λ t earlier. kind_refusal (scenario_by leg) (session_of leg) t earlier (Frame octets)) stands.ticks
     (first-items live s leg.items stands more)
 
-reckons-land : (leg : Leg) (live : Live) (s : Counts) (kind : ItemKind) (was : Reckoned) → Stands live s →
+pub reckons-land : (leg : Leg) (live : Live) (s : Counts) (kind : ItemKind) (was : Reckoned) → Stands live s →
     HasLater live leg.items → Reckons leg live s was →
     Reckons leg (live_after live (lands kind)) (counts_said (walk_plan leg) s (lands kind))
     (reckoned_to (lands kind) (item_answers leg s kind) was)
@@ -281,7 +281,7 @@ reckons-land leg live s kind was stands more reckons = record {
     by (Remove line) = let sum = reckons.sum in omega (arith, sum)
 
 -- ---- a pass: what was said before it is no longer due
-past-offers : (n t : ℕ) (items : List Item) → n < t → All (λ (item : Item). item.due ≤ n) items →
+pub past-offers : (n t : ℕ) (items : List Item) → n < t → All (λ (item : Item). item.due ≤ n) items →
     filter (comes_at t) (offers_of items) ≡ []
 past-offers n t [] low past = refl
 past-offers n t (item ∷ items) low past =
@@ -366,7 +366,7 @@ module _ (config : Config) (leg : Leg) (sound : IsSound leg) (said : List Saying
         omega (arith, few, sum)
 
 -- ---- a frame that is said next
-refusal-room : (octets : List ℕ) (stream : Stream) → 64 ≤ length octets → length octets ≤ 9600 →
+pub refusal-room : (octets : List ℕ) (stream : Stream) → 64 ≤ length octets → length octets ≤ 9600 →
     length stream.waiting < 256 → frame_refusal octets stream ≡ None
 refusal-room octets stream least most room =
     let short : nat_lt (length octets) shortest_frame ≡ false = grind (arith, nat_tests, least) in
@@ -374,7 +374,7 @@ refusal-room octets stream least most room =
     let full : nat_le most_waiting (length stream.waiting) ≡ false = grind (arith, nat_tests, room) in
     rw (short, long, full) refl
 
-refusal-full : (octets : List ℕ) (stream : Stream) → 64 ≤ length octets → length octets ≤ 9600 →
+pub refusal-full : (octets : List ℕ) (stream : Stream) → 64 ≤ length octets → length octets ≤ 9600 →
     length stream.waiting ≡ 256 → frame_refusal octets stream ≡ Some (QueueFull 256)
 refusal-full octets stream least most is =
     let short : nat_lt (length octets) shortest_frame ≡ false = grind (arith, nat_tests, least) in

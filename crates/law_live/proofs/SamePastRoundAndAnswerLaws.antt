@@ -6,8 +6,8 @@ use Rattle.std.proofs.lemmas.Bool.{cases_Bool, leb-false}
 use Rattle.law_model.specs.Common.{Counts, Due, LineCounts, LinePath, Plan, Popped, Step, bound, carries_from, carry}
 use Rattle.law_model.specs.Common.{carry_at, full, in_receive, in_send, is_back_full, moved, pop, pop_lines}
 use Rattle.law_model.specs.Common.{popped_line, run, stalled, step, take_popped, take_row, tick, tick_full, tick_held}
-use Rattle.law_model.specs.Common.{with_line, IsSound, Leg, begin, deliver, due_of, dues_of, longest_frame, offers_of}
-use Rattle.law_model.specs.Common.{orders_of, scenario_by, steps_in}
+use Rattle.law_model.specs.Common.{with_line, IsSound, Leg, begin, due_of, dues_of}
+use Rattle.law_model.specs.Common.{scenario_by, steps_in}
 use Rattle.law_model.specs.session.Counts.{back}
 use Rattle.law_model.specs.declared.walk_events.Event.TheVariants.{Back, Carry, Tick}
 use Rattle.law_model.specs.declared.walk_events.StallCause.TheVariants.{BackFull, Done, Empty, RxFull}
@@ -21,16 +21,16 @@ use Rattle.law_live.specs.Common.{live_of, mends, now_at, opened, pass_ends, pas
 use Rattle.law_live.specs.Common.{rounds_answers, rounds_from, rounds_of, rounds_said, steps_between, waiting_at}
 use Rattle.law_live.proofs.LiveRoundAndLandingLaws.{IsSettled, Settled, settled-at, settled-free, enough, fits-round}
 use Rattle.law_live.proofs.LiveRoundAndLandingLaws.{settled-round, goes-back, goes-carry, goes-round, goes-tick}
-use Rattle.law_live.proofs.SamePastTableAndCellLaws.{AtAlike, PathAlike, PathsAlike, alike-at, refusal-same, rows-same}
-use Rattle.law_live.proofs.SamePastTableAndCellLaws.{agrees-with_parts, alike-legs, cells-same-legs as cells-same}
-use Rattle.law_live.proofs.SamePastTableAndCellLaws.{leg_with, same-below, tables-same, waiting-same, paths-alike}
+use Rattle.law_live.proofs.SamePastTableAndCellLaws.{AtAlike, PathAlike, PathsAlike, SameBelow, alike-at}
+use Rattle.law_live.proofs.SamePastTableAndCellLaws.{agrees-with_parts, cells-same-legs as cells-same, delivered-same}
+use Rattle.law_live.proofs.SamePastTableAndCellLaws.{leg_with, refused-same, same-below, tables-same, paths-alike, waiting-same}
 use Rattle.std.proofs.lemmas.List.{length-map}
 use Rattle.std.proofs.Math.Seq.{take-append_seam}
 use Rattle.law_model.specs.declared.script_types.Config.{Config}
 use Rattle.law_model.specs.declared.script_types.Item.{Item}
 use Rattle.law_model.specs.declared.script_types.ItemKind.{ItemKind}
 use Rattle.law_model.specs.declared.window_types.Window.{Window}
-use Rattle.law_walk.specs.Common.{CanWalk, cell_taken, delivered_of, kind_refusal, session_of, table_in, walk_plan}
+use Rattle.law_walk.specs.Common.{CanWalk, cell_taken, kind_refusal, session_of, table_in, walk_plan}
 use Rattle.law_walk.proofs.WalkPlanAndPoppedCellLaws.{has-paths, has-plan, sound-walks}
 use Rattle.law_live.proofs.ConversationCountAndScriptLaws.{Stands, fits-after, item-lands, later-all, later-less}
 use Rattle.law_live.proofs.ConversationCountAndScriptLaws.{settles, stands-after, stands-begun}
@@ -92,7 +92,7 @@ module _ (total ring ticks rows n : ℕ) (low : ticks ≤ n) where
       ∙ pop-same one other t (in_receive other line) line.popped (one.given line.carried)
       (λ z few. alike.decided line.carried z fits.carries early few) (omega (arith, given, pops)))
 
-  lines-same : (t m : ℕ) (ones others : List LinePath) (lines : List LineCounts) → PathsAlike total n ones others →
+  pub lines-same : (t m : ℕ) (ones others : List LinePath) (lines : List LineCounts) → PathsAlike total n ones others →
       Each (LineFits total ring ticks rows) ones lines → pop_lines t m ones lines ≡ pop_lines t m others lines
   unfolding PathsAlike Each pop_lines
   lines-same t m [] [] lines alike fits = refl
@@ -124,7 +124,7 @@ module _ (plan : Plan) (items : List Due) (paths : List LinePath) (n : ℕ)
         else (if is_back_full s then stalled s BackFull else take_popped s popped.lines popped.waiting))
         (lines-same plan.ticks plan.ring s.ticks s.rows n low s.rows 0 plan.paths paths s.lines alike fits.lines)
 
-    carry-same : (s : Counts) (m : ℕ) → Fits plan s → s.ticks ≤ n → carry plan s m ≡ carry other s m
+    pub carry-same : (s : Counts) (m : ℕ) → Fits plan s → s.ticks ≤ n → carry plan s m ≡ carry other s m
     carry-same s m fits low =
         by (slice_get plan.paths m) (slice_get paths m) (slice_get s.lines m) refl refl
         (alike-at plan.ticks n plan.paths paths m alike)
@@ -208,7 +208,7 @@ more-rounds slow fast slip plan is (suc more) from until s fits settled low few 
     ∙ enough slow fast slip plan is (bound plan + more) from until s fits settled low few (omega arith)
     ∙ more-rounds slow fast slip plan is more from until s fits settled low few
 
-swapped : (a b : ℕ) → a + b ≡ b + a
+pub swapped : (a b : ℕ) → a + b ≡ b + a
 swapped a b = omega arith
 
 module _ (plan : Plan) (items : List Due) (paths : List LinePath) (n : ℕ)
@@ -294,7 +294,7 @@ first-items live s all stands more =
 
 -- ---- Two legs in which the same was said so far: what is answered to it is the same.
 -- ticks never go back
-passed-rises : (said : List Saying) (live : Live) → live.passed ≤ (live_from live said).passed
+pub passed-rises : (said : List Saying) (live : Live) → live.passed ≤ (live_from live said).passed
 unfolding live_from
 passed-rises [] live = omega arith
 passed-rises (saying ∷ said) live =
@@ -343,22 +343,19 @@ module _ (config : Config) (now : Live) (windows windows' : List (List Window)) 
     twin_is : IsPlan twin-answers
     twin_is = has-plan other-answers can'
 
+    same : SameBelow (scenario_by leg) (scenario_by other-answers) 0 now.passed
+    same = same-below config now windows windows' items items' lag most agrees agrees'
+
     alike : PathsAlike config.ticks now.passed plan.paths twin-answers.paths
-    alike = paths-alike config now windows windows' items items' lag most agrees agrees' can can'
+    alike = paths-alike leg other-answers 0 now.passed same can can'
 
     -- ---- rounds
-    delivered-same : (rows : ℕ) → rows ≤ now.passed → delivered_of leg rows ≡ delivered_of other-answers rows
-    delivered-same rows low =
-        ap (deliver longest_frame)
-        (rows-same (scenario_by leg) windows' (orders_of items') (offers_of items') now.passed
-        (same-below config now windows windows' items items' lag most agrees agrees') (session_of leg) (session_of other-answers)
-        (alike-legs config now windows windows' items items' lag most agrees agrees') rows low)
-
     round-same-answers : (s next : Counts) → s.rows ≤ now.passed → next.rows ≤ now.passed →
         round_answers leg s next ≡ round_answers other-answers s next
     round-same-answers s next low low' =
         ap₂ (λ was made. steps_between s.ticks next.ticks ++ map (got_at next.ticks) (drop (length was) made))
-        (delivered-same s.rows low) (delivered-same next.rows low')
+        (delivered-same leg other-answers 0 now.passed same s.rows low)
+        (delivered-same leg other-answers 0 now.passed same next.rows low')
 
     rounds-same : (rounds : ℕ) (s : Counts) → Together plan twin-answers now.passed rounds s →
         rounds_answers rounds leg s ≡ rounds_answers rounds other-answers s
@@ -376,10 +373,7 @@ module _ (config : Config) (now : Live) (windows windows' : List (List Window)) 
         ap (refused_answer (s.frames + s.commands))
         (ap (λ earlier. kind_refusal (scenario_by leg) (session_of leg) s.ticks earlier kind)
         (first-items live s items stands more ∙ sym (first-items live s items' stands more'))
-        ∙ refusal-same (scenario_by leg) windows' (orders_of items') (offers_of items') now.passed
-        (same-below config now windows windows' items items' lag most agrees agrees') (session_of leg) (session_of other-answers)
-        (alike-legs config now windows windows' items items' lag most agrees agrees') s.ticks
-        (take (s.frames + s.commands) items') kind low)
+        ∙ refused-same leg other-answers 0 now.passed same s.ticks (take (s.frames + s.commands) items') kind low)
 
     -- ---- ticks that pass
     settled : (live : Live) (s : Counts) (k : ℕ) (of : List (List Window)) (all : List Item) → Stands live s →
@@ -394,8 +388,8 @@ module _ (config : Config) (now : Live) (windows windows' : List (List Window)) 
         pass_ends leg was made ≡ pass_ends other-answers was made
     ends-same was made low most' =
         ap₂ (λ before behind. queue_at before behind ∷ now_at made ∷ [])
-        (waiting-same config now windows windows' items items' lag most agrees agrees' was low)
-        (waiting-same config now windows windows' items items' lag most agrees agrees' made most')
+        (waiting-same leg other-answers 0 now.passed same was low)
+        (waiting-same leg other-answers 0 now.passed same made most')
 
     pass-same : (live : Live) (s : Counts) (k : ℕ) → CanSay config.ticks live (passes k) → Stands live s → Fits plan s →
         Fits twin-answers s → HasLater (live_after live (passes k)) items → HasLater (live_after live (passes k)) items' →
@@ -513,6 +507,8 @@ later-with config said windows windows' items items' sound sound' well agrees ag
     let ticks = (agrees-stands config leg sound said well agrees).ticks in
     let fits = (reached-fits (walk_plan leg) (live_counts leg said) (has-plan leg can) (said-walked leg said)).ticks in
     let most : now.passed ≤ config.ticks = omega (arith, ticks, fits) in
+    let below : SameBelow (scenario_by leg) (scenario_by other-answers) 0 now.passed =
+    same-below config now windows windows' items items' lag most agrees agrees' in
     let same = begun-same config now windows windows' items items' lag most agrees agrees' can can' said well.each
     agrees.items agrees'.items (omega arith) in
     let begun : begin (walk_plan leg) ≡ begin (walk_plan other-answers) =
@@ -521,9 +517,9 @@ later-with config said windows windows' items items' sound sound' well agrees ag
       counts = same.counts ∙ ap (λ c. counts_from (walk_plan other-answers) c said) begun;
       rounds = same.rounds ∙ ap (λ c. rounds_from (walk_plan other-answers) c said) begun;
       answers = same.answers ∙ ap (λ c. answers_from other-answers c said) begun;
-      cells = cells-same config now windows windows' items items' lag most agrees agrees' can can';
-      tables = tables-same config now windows windows' items items' lag most agrees agrees';
-      waiting = waiting-same config now windows windows' items items' lag most agrees agrees';
+      cells = cells-same leg other-answers 0 now.passed below can can';
+      tables = tables-same leg other-answers 0 now.passed below;
+      waiting = waiting-same leg other-answers 0 now.passed below;
     }
 
 pub later : (config : Config) (said : List Saying) (leg other-answers : Leg) → IsSound leg → IsSound other-answers →

@@ -15,7 +15,7 @@ use Rattle.law_model.specs.Common.{comes_at, container_of, frame_refusal, is_goo
 use Rattle.law_model.specs.Common.{is_whole_row, is_whole_under, lands_at, lock_of, offered, offers_of, orders_of}
 use Rattle.law_model.specs.Common.{payload_of, place_of, refusal, return_of, rows_of, stream_before, stream_of}
 use Rattle.law_model.specs.Common.{was_member, width, Leg, order_of, offer_of, packet_nibbles, scenario_by, Container}
-use Rattle.law_model.specs.Common.{LinePath, cells, cells_of, containers_of, decided_in, end_of, path, reading_of}
+use Rattle.law_model.specs.Common.{deliver, longest_frame, return_packet, LinePath, cells, cells_of, containers_of, decided_in, end_of, path, reading_of}
 use Rattle.law_model.specs.declared.window_types.Carried.{Carried}
 use Rattle.law_model.specs.declared.window_types.Window.{Window}
 use Rattle.law_row.proofs.ActivePacketsLaws.{heard-any}
@@ -34,7 +34,7 @@ use Rattle.law_model.specs.declared.script_types.ItemKind.TheVariants.{Frame, Ad
 use Rattle.law_terminal.specs.Course.{packet_by}
 use Rattle.law_terminal.proofs.ContainerPayloadLaws.{same-range}
 use Rattle.law_walk.specs.Common.{kind_refusal, CanWalk, back_cell, cell_taken, session_of, table_in, delay_on}
-use Rattle.law_walk.specs.Common.{path_on, sent_on, walk_plan}
+use Rattle.law_walk.specs.Common.{delivered_of, path_on, said_packet, sent_at, sent_on, walk_plan}
 use Rattle.std.proofs.lemmas.Bool.{cases_lt}
 use Rattle.std.proofs.lemmas.Bool.Decides.{nat_tests}
 use Rattle.std.proofs.lemmas.Grind.{flat_map-append}
@@ -51,18 +51,27 @@ use Rattle.law_walk.proofs.WalkPlanAndPoppedCellLaws.{has-paths, line-path, line
 
 -- ---- What was read of each line so far, and so the return cells and the source's tables so far, depend on what comes of the
 -- containers that are made and on what has landed alone.
--- a scenario of the same network, with other failures, and in which other commands and frames land
-abbrev pub with_parts : Scenario → List (List Window) → List DueCommand → List DueFrame → Scenario
-with_parts scenario windows orders offers = record scenario { windows = windows; orders = orders; offers = offers }
+-- a scenario of the same network, with the failures and losses of another, in which the same lands and is told as there
+abbrev pub with_parts : Scenario → Scenario → Scenario
+with_parts scenario parts = record scenario {
+  windows = parts.windows;
+  lost = parts.lost;
+  orders = parts.orders;
+  offers = parts.offers;
+  tells = parts.tells;
+}
 
--- the same comes of each container below a number, and the same lands before it
-pub record SameBelow (one other : Scenario) (n : ℕ) : Type 0 where
-  pub some : 0 < one.lag
+-- the same comes of each container below a number, the same lands before it, and the same is told. Whether a return packet
+-- is lost is known so many packets later
+pub record SameBelow (one other : Scenario) (later n : ℕ) : Type 0 where
+  pub some : later < one.lag
   pub most : n ≤ one.ticks
   pub lines : length one.windows ≡ length other.windows
   pub windows : (line t : ℕ) → t < n → carried_by one line t ≡ carried_by other line t
   pub orders : (j : ℕ) → j < steps_in n → orders_at one j ≡ orders_at other j
   pub offers : (t : ℕ) → t < n → frames_at one t ≡ frames_at other t
+  pub lost : (k : ℕ) → 16 * (k + later) + 24 ≤ n → is_lost one k ≡ is_lost other k
+  pub tells : (k : ℕ) → k < steps_in n → telling_at one k ≡ telling_at other k
 
 -- ---- what is whole
 pub whole-same : (f g : ℕ → Carried) (from count : ℕ) →
@@ -73,179 +82,181 @@ whole-same f g from (suc count) same =
     ap₂ (λ a b. a && is_whole b) (whole-same f g from count (λ t low high. same t low (omega (arith, high))))
     (same (from + count) (omega arith) (omega arith))
 
-module _ (one : Scenario) (windows : List (List Window)) (orders : List DueCommand) (offers : List DueFrame) (n : ℕ)
-    (same : SameBelow one (with_parts one windows orders offers) n)
-  where
-    abbrev other : Scenario
-    other = with_parts one windows orders offers
+module _ (one parts : Scenario) (later n : ℕ) (same : SameBelow one (with_parts one parts) later n) where
+  abbrev other : Scenario
+  other = with_parts one parts
 
-    -- ---- what is read
-    pub reads-same : (line k : ℕ) → 16 * k + 24 ≤ n → is_read one line k ≡ is_read other line k
-    reads-same line k low =
-        whole-same (carried_by one line) (carried_by other line) (16 * k) 24
-        (λ t from high. same.windows line t (omega (arith, high, low)))
+  -- ---- what is read
+  pub reads-same : (line k : ℕ) → 16 * k + 24 ≤ n → is_read one line k ≡ is_read other line k
+  reads-same line k low =
+      whole-same (carried_by one line) (carried_by other line) (16 * k) 24
+      (λ t from high. same.windows line t (omega (arith, high, low)))
 
-    pub heard-same : (k : ℕ) → 16 * k + 24 ≤ n → is_heard one k ≡ is_heard other k
-    heard-same k low =
-        sym (heard-any one k)
-        ∙ ap (λ test. list_any test (range_with_len 0 (length one.windows)))
+  pub heard-same : (k : ℕ) → 16 * k + 24 ≤ n → is_heard one k ≡ is_heard other k
+  heard-same k low =
+      sym (heard-any one k)
+      ∙ ap (λ test. list_any test (range_with_len 0 (length one.windows)))
+      (fun_ext (λ line. reads-same line k low))
+      ∙ ap (λ size. list_any (λ line. is_read other line k) (range_with_len 0 size)) same.lines
+      ∙ heard-any other k
+
+  pub last_read-same : (line k : ℕ) → 16 * k + 24 ≤ n →
+      last_read (is_read one line) k ≡ last_read (is_read other line) k
+  last_read-same line k low =
+      last-same (is_read one line) (is_read other line) k (λ j early. reads-same line j (omega (arith, early, low)))
+
+  up-so-far : (line k : ℕ) → 16 * k + 24 ≤ n → is_line_up one line k ≡ is_line_up other line k
+  up-so-far line k low =
+      up-same one.options (is_read one line) (is_read other line) k
+      (λ j early. reads-same line j (omega (arith, early, low)))
+
+  -- ---- by return cells that are the same so far
+  module _ (a b : List (Option Told)) (alike : Alike one a other b n) where
+    pub table-same : (j : ℕ) → j < steps_in n → table_of one a j ≡ table_of other b j
+    table-same j low = ap (λ source. source.table) (alike-after one a other b n (suc j) alike low)
+
+    pub said-same : (k : ℕ) → 16 * k + 8 ≤ n → said_before one a k ≡ said_before other b k
+    unfolding said_before
+    said-same zero low = refl
+    said-same (suc k) low =
+        ap (λ heard. if heard then (table_of one a k).count else said_before one a k) (heard-same k (omega (arith, low)))
+        ∙ ap (λ (table : Table). if is_heard other k then table.count else said_before one a k)
+        (table-same k (omega (arith, low)))
+        ∙ ap (λ count. if is_heard other k then (table_of other b k).count else count)
+        (said-same k (omega (arith, low)))
+
+    word_by-same : (count : ℕ) (found : Option ℕ) → ((last : ℕ) → found ≡ Some last → last < steps_in n) →
+        word_by one a count found ≡ word_by other b count found
+    word_by-same count None early = refl
+    word_by-same count (Some last) early =
+        ap (λ (table : Table). if table.count == count then Some last else None) (table-same last (early last refl))
+
+    pub word-same : (line k : ℕ) → 16 * k + 24 ≤ n → word one a line k ≡ word other b line k
+    word-same line k low =
+        ap (λ count. word_by one a count (last_read (is_read one line) k)) (said-same (suc k) (omega (arith, low)))
+        ∙ ap (word_by one a (said other b k)) (last_read-same line k low)
+        ∙ word_by-same (said other b k) (last_read (is_read other line) k)
+        (λ last e. let past = (last-read (is_read other line) k last e).0 in omega (arith, past, low))
+
+    stands-same : (line sq : ℕ) (found : Option ℕ) → ((last : ℕ) → found ≡ Some last → last < steps_in n) →
+        stands_at one a line sq found ≡ stands_at other b line sq found
+    stands-same line sq None early = refl
+    stands-same line sq (Some last) early =
+        ap (λ (table : Table). is_line line (slice_get table.order sq)) (table-same last (early last refl))
+
+    line-same : (k sq : ℕ) → 16 * k + 24 ≤ n → (line : ℕ) →
+        (is_line_up one line k && stands_at one a line sq (word one a line k))
+        ≡ (is_line_up other line k && stands_at other b line sq (word other b line k))
+    line-same k sq low line =
+        ap₂ (λ up stands. up && stands) (up-so-far line k low)
+        (ap (stands_at one a line sq) (word-same line k low)
+        ∙ stands-same line sq (word other b line k)
+        (λ last e. let past = (word-of other b line k last e).past in omega (arith, past, low)))
+
+    status-same : (k sq : ℕ) → 16 * k + 24 ≤ n → status one a k sq ≡ status other b k sq
+    status-same k sq low =
+        ap (λ test. list_any test (range_with_len 0 (length one.windows))) (fun_ext (line-same k sq low))
+        ∙ ap (λ size. list_any (λ line. is_line_up other line k && stands_at other b line sq (word other b line k))
+        (range_with_len 0 size)) same.lines
+
+    abbrev told_with : ℕ → ℕ → (ℕ → Bool) → Told
+    told_with count k ok = record {
+      rs_ack = count % 2;
+      oks = map (λ i. ok (8 * group_of one k + i)) (0 ∷ 1 ∷ 2 ∷ 3 ∷ 4 ∷ 5 ∷ 6 ∷ 7 ∷ []);
+    }
+
+    pub return-same : (k : ℕ) → 16 * k + 24 ≤ n → return_packet one a k ≡ return_packet other b k
+    return-same k low =
+        ap (λ count. told_with count k (status one a k)) (said-same (suc k) (omega (arith, low)))
+        ∙ ap (told_with (said other b k) k) (fun_ext (λ sq. status-same k sq low))
+
+    pub returned-same : (k : ℕ) → 16 * (k + later) + 24 ≤ n → return_cell one a k ≡ return_cell other b k
+    returned-same k low =
+        ap₂ (λ lost (packet : Told). if lost then None else Some packet) (same.lost k low)
+        (return-same k (omega (arith, low)))
+
+    -- the packets of all lines that can be read
+    pub packets-same : (k : ℕ) → 16 * k + 24 ≤ n → packets_of one a k ≡ packets_of other b k
+    packets-same k low =
+        ap₂ (λ size told. packets_from size told (table_of one a k) k (λ line. is_read one line k)) same.lines
+        (same.tells k (omega (arith, low)))
+        ∙ ap (λ (table : Table). packets_from (length other.windows) (telling_at other k) table k
+        (λ line. is_read one line k)) (table-same k (omega (arith, low)))
+        ∙ ap (packets_from (length other.windows) (telling_at other k) (table_of other b k) k)
         (fun_ext (λ line. reads-same line k low))
-        ∙ ap (λ size. list_any (λ line. is_read other line k) (range_with_len 0 size)) same.lines
-        ∙ heard-any other k
 
-    pub last_read-same : (line k : ℕ) → 16 * k + 24 ≤ n →
-        last_read (is_read one line) k ≡ last_read (is_read other line) k
-    last_read-same line k low =
-        last-same (is_read one line) (is_read other line) k (λ j early. reads-same line j (omega (arith, early, low)))
+  -- ---- the session's own return cells
+  alike-any : (cells : List (Option Told)) → Alike one cells other cells n
+  alike-any cells = record {
+    lines = same.lines;
+    lag = refl;
+    size = refl;
+    statuses = refl;
+    orders = same.orders;
+    cells = λ j low. refl;
+    offers = same.offers;
+    tells = same.tells;
+  }
 
-    up-so-far : (line k : ℕ) → 16 * k + 24 ≤ n → is_line_up one line k ≡ is_line_up other line k
-    up-so-far line k low =
-        up-same one.options (is_read one line) (is_read other line) k
-        (λ j early. reads-same line j (omega (arith, early, low)))
+  cells-same : (k : ℕ) → 16 * (k + later) + 8 ≤ n → cells_before one k ≡ cells_before other k
+  unfolding cells_before
+  cells-same zero low = refl
+  cells-same (suc k) low =
+      let before = cells-same k (omega (arith, low)) in
+      ap (λ cells. cells ++ return_cell one cells k ∷ []) before
+      ∙ ap (λ cell. cells_before other k ++ cell ∷ [])
+      (returned-same (cells_before other k) (cells_before other k) (alike-any (cells_before other k)) k
+      (omega (arith, low)))
 
-    -- ---- by return cells that are the same so far
-    module _ (a b : List (Option Told)) (alike : Alike one a other b n) where
-      pub table-same : (j : ℕ) → j < steps_in n → table_of one a j ≡ table_of other b j
-      table-same j low = ap (λ source. source.table) (alike-after one a other b n (suc j) alike low)
+  session-cell : (scenario : Scenario) (i : ℕ) → i < packets scenario →
+      slice_index_or (session_cells scenario) i None ≡ slice_index_or (cells_before scenario (suc i)) i None
+  session-cell scenario i low =
+      sym (get_or-take (suc i) (session_cells scenario) i None (omega arith))
+      ∙ ap (λ cells. slice_index_or cells i None) (sym (session-agree scenario (suc i) (suc i) low (omega arith)))
+      ∙ get_or-take (suc i) (cells_before scenario (suc i)) i None (omega arith)
 
-      pub said-same : (k : ℕ) → 16 * k + 8 ≤ n → said_before one a k ≡ said_before other b k
-      unfolding said_before
-      said-same zero low = refl
-      said-same (suc k) low =
-          ap (λ heard. if heard then (table_of one a k).count else said_before one a k) (heard-same k (omega (arith, low)))
-          ∙ ap (λ (table : Table). if is_heard other k then table.count else said_before one a k)
-          (table-same k (omega (arith, low)))
-          ∙ ap (λ count. if is_heard other k then (table_of other b k).count else count)
-          (said-same k (omega (arith, low)))
+  taken-same : (j : ℕ) → j < steps_in n → cell_at one (session_cells one) j ≡ cell_at other (session_cells other) j
+  taken-same j low =
+      elim (nat_le one.lag j) as (λ c. nat_le one.lag j ≡ c →
+      (if c then slice_index_or (session_cells one) (j - one.lag) None else None)
+      ≡ (if c then slice_index_or (session_cells other) (j - one.lag) None else None)) [
+        | true ↦ λ e.
+            let late = leb-true one.lag j e in
+            let some = same.some in
+            let most = same.most in
+            let i : ℕ = j - one.lag in
+            let inside : i < packets one = omega (arith, late, some, most, low) in
+            session-cell one i inside
+            ∙ ap (λ cells. slice_index_or cells i None) (cells-same (suc i) (omega (arith, late, some, low)))
+            ∙ sym (session-cell other i inside)
+        | false ↦ λ e. refl
+      ] refl
 
-      word_by-same : (count : ℕ) (found : Option ℕ) → ((last : ℕ) → found ≡ Some last → last < steps_in n) →
-          word_by one a count found ≡ word_by other b count found
-      word_by-same count None early = refl
-      word_by-same count (Some last) early =
-          ap (λ (table : Table). if table.count == count then Some last else None) (table-same last (early last refl))
-
-      pub word-same : (line k : ℕ) → 16 * k + 24 ≤ n → word one a line k ≡ word other b line k
-      word-same line k low =
-          ap (λ count. word_by one a count (last_read (is_read one line) k)) (said-same (suc k) (omega (arith, low)))
-          ∙ ap (word_by one a (said other b k)) (last_read-same line k low)
-          ∙ word_by-same (said other b k) (last_read (is_read other line) k)
-          (λ last e. let past = (last-read (is_read other line) k last e).0 in omega (arith, past, low))
-
-      stands-same : (line sq : ℕ) (found : Option ℕ) → ((last : ℕ) → found ≡ Some last → last < steps_in n) →
-          stands_at one a line sq found ≡ stands_at other b line sq found
-      stands-same line sq None early = refl
-      stands-same line sq (Some last) early =
-          ap (λ (table : Table). is_line line (slice_get table.order sq)) (table-same last (early last refl))
-
-      line-same : (k sq : ℕ) → 16 * k + 24 ≤ n → (line : ℕ) →
-          (is_line_up one line k && stands_at one a line sq (word one a line k))
-          ≡ (is_line_up other line k && stands_at other b line sq (word other b line k))
-      line-same k sq low line =
-          ap₂ (λ up stands. up && stands) (up-so-far line k low)
-          (ap (stands_at one a line sq) (word-same line k low)
-          ∙ stands-same line sq (word other b line k)
-          (λ last e. let past = (word-of other b line k last e).past in omega (arith, past, low)))
-
-      status-same : (k sq : ℕ) → 16 * k + 24 ≤ n → status one a k sq ≡ status other b k sq
-      status-same k sq low =
-          ap (λ test. list_any test (range_with_len 0 (length one.windows))) (fun_ext (line-same k sq low))
-          ∙ ap (λ size. list_any (λ line. is_line_up other line k && stands_at other b line sq (word other b line k))
-          (range_with_len 0 size)) same.lines
-
-      abbrev told_with : ℕ → ℕ → (ℕ → Bool) → Told
-      told_with count k ok = record {
-        rs_ack = count % 2;
-        oks = map (λ i. ok (8 * group_of one k + i)) (0 ∷ 1 ∷ 2 ∷ 3 ∷ 4 ∷ 5 ∷ 6 ∷ 7 ∷ []);
-      }
-
-      pub return-same : (k : ℕ) → 16 * k + 24 ≤ n → return_cell one a k ≡ return_cell other b k
-      return-same k low =
-          ap (λ (packet : Told). if is_lost one k then None else Some packet)
-          (ap (λ count. told_with count k (status one a k)) (said-same (suc k) (omega (arith, low)))
-          ∙ ap (told_with (said other b k) k) (fun_ext (λ sq. status-same k sq low)))
-
-      -- the packets of all lines that can be read
-      pub packets-same : (k : ℕ) → 16 * k + 24 ≤ n → packets_of one a k ≡ packets_of other b k
-      packets-same k low =
-          ap (λ size. packets_from size (telling_at one k) (table_of one a k) k (λ line. is_read one line k)) same.lines
-          ∙ ap (λ (table : Table). packets_from (length other.windows) (telling_at one k) table k
-          (λ line. is_read one line k)) (table-same k (omega (arith, low)))
-          ∙ ap (packets_from (length other.windows) (telling_at one k) (table_of other b k) k)
-          (fun_ext (λ line. reads-same line k low))
-
-    -- ---- the session's own return cells
-    alike-any : (cells : List (Option Told)) → Alike one cells other cells n
-    alike-any cells = record {
-      lines = same.lines;
-      lag = refl;
-      size = refl;
-      statuses = refl;
-      orders = same.orders;
-      cells = λ j low. refl;
-      offers = same.offers;
-      tells = λ k low. refl;
-    }
-
-    cells-same : (k : ℕ) → 16 * k + 8 ≤ n → cells_before one k ≡ cells_before other k
-    unfolding cells_before
-    cells-same zero low = refl
-    cells-same (suc k) low =
-        let before = cells-same k (omega (arith, low)) in
-        ap (λ cells. cells ++ return_cell one cells k ∷ []) before
-        ∙ ap (λ cell. cells_before other k ++ cell ∷ [])
-        (return-same (cells_before other k) (cells_before other k) (alike-any (cells_before other k)) k
-        (omega (arith, low)))
-
-    session-cell : (scenario : Scenario) (i : ℕ) → i < packets scenario →
-        slice_index_or (session_cells scenario) i None ≡ slice_index_or (cells_before scenario (suc i)) i None
-    session-cell scenario i low =
-        sym (get_or-take (suc i) (session_cells scenario) i None (omega arith))
-        ∙ ap (λ cells. slice_index_or cells i None) (sym (session-agree scenario (suc i) (suc i) low (omega arith)))
-        ∙ get_or-take (suc i) (cells_before scenario (suc i)) i None (omega arith)
-
-    taken-same : (j : ℕ) → j < steps_in n → cell_at one (session_cells one) j ≡ cell_at other (session_cells other) j
-    taken-same j low =
-        elim (nat_le one.lag j) as (λ c. nat_le one.lag j ≡ c →
-        (if c then slice_index_or (session_cells one) (j - one.lag) None else None)
-        ≡ (if c then slice_index_or (session_cells other) (j - one.lag) None else None)) [
-          | true ↦ λ e.
-              let late = leb-true one.lag j e in
-              let some = same.some in
-              let most = same.most in
-              let i : ℕ = j - one.lag in
-              let inside : i < packets one = omega (arith, late, some, most, low) in
-              session-cell one i inside
-              ∙ ap (λ cells. slice_index_or cells i None) (cells-same (suc i) (omega (arith, late, some, low)))
-              ∙ sym (session-cell other i inside)
-          | false ↦ λ e. refl
-        ] refl
-
-    pub alike-session : Alike one (session_cells one) other (session_cells other) n
-    alike-session = record {
-      lines = same.lines;
-      lag = refl;
-      size = refl;
-      statuses = refl;
-      orders = same.orders;
-      cells = taken-same;
-      offers = same.offers;
-      tells = λ k low. refl;
-    }
+  pub alike-session : Alike one (session_cells one) other (session_cells other) n
+  alike-session = record {
+    lines = same.lines;
+    lag = refl;
+    size = refl;
+    statuses = refl;
+    orders = same.orders;
+    cells = taken-same;
+    offers = same.offers;
+    tells = same.tells;
+  }
 
 -- ---- What the rows so far carry, which of them are whole, which containers are sent and what is refused depend on what comes
 -- of the containers that are made and on what has landed alone.
-module _ (one : Scenario) (windows : List (List Window)) (orders : List DueCommand) (offers : List DueFrame) (n : ℕ)
-    (same : SameBelow one (with_parts one windows orders offers) n) (a b : List (Option Told))
-    (alike : Alike one a (with_parts one windows orders offers) b n)
+module _ (one parts : Scenario) (later n : ℕ) (same : SameBelow one (with_parts one parts) later n)
+    (a b : List (Option Told)) (alike : Alike one a (with_parts one parts) b n)
   where
     abbrev other-rows : Scenario
-    other-rows = with_parts one windows orders offers
+    other-rows = with_parts one parts
 
     reads : (line k : ℕ) → 16 * k + 24 ≤ n → is_read one line k ≡ is_read other-rows line k
-    reads = reads-same one windows orders offers n same
+    reads = reads-same one parts later n same
 
     tables : (j : ℕ) → j < steps_in n → table_of one a j ≡ table_of other-rows b j
-    tables = table-same one windows orders offers n same a b alike
+    tables = table-same one parts later n same a b alike
 
     sooner : (t : ℕ) → t ≤ n → Alike one a other-rows b t
     sooner t low = Alike-sooner one a other-rows b t n low alike
@@ -267,14 +278,14 @@ module _ (one : Scenario) (windows : List (List Window)) (orders : List DueComma
     silent-same : (line k : ℕ) → 16 * k + 24 ≤ n → is_silent_line one a line k ≡ is_silent_line other-rows b line k
     silent-same line k low =
         ap₂ (λ read member. not read && member) (reads line k low)
-        (ap (was_member one a line) (last_read-same one windows orders offers n same line k low)
+        (ap (was_member one a line) (last_read-same one parts later n same line k low)
         ∙ member-same line (last_read (is_read other-rows line) k)
         (λ last e. let past = (last-read (is_read other-rows line) k last e).0 in omega (arith, past, low)))
 
     supposed-same : (line k : ℕ) → 16 * k + 24 ≤ n → is_inferred one a line k ≡ is_inferred other-rows b line k
     supposed-same line k low =
         ap₂ (λ (table : Table) (said : Option ℕ). list_any (λ carrier. carrier == line) (active table) && is_some said)
-        (tables k (omega (arith, low))) (word-same one windows orders offers n same a b alike line k low)
+        (tables k (omega (arith, low))) (word-same one parts later n same a b alike line k low)
 
     settled-same : (k : ℕ) → 16 * k + 24 ≤ n → (line : ℕ) →
         (not (is_silent_line one a line k) || is_inferred one a line k)
@@ -298,7 +309,7 @@ module _ (one : Scenario) (windows : List (List Window)) (orders : List DueComma
     under-same : (k t : ℕ) → 16 * k + 24 ≤ n → t < n → is_whole_under one a k t ≡ is_whole_under other-rows b k t
     under-same k t low early =
         ap₂ (λ known good. known && good)
-        (ap₂ (λ heard known. heard && known) (heard-same one windows orders offers n same k low) (known-same k low))
+        (ap₂ (λ heard known. heard && known) (heard-same one parts later n same k low) (known-same k low))
         (ap (λ (table : Table). list_all (λ line. is_good (carried_by one line) t) (active table))
         (tables k (omega (arith, low)))
         ∙ ap (λ test. list_all test (active (table_of other-rows b k))) (fun_ext (λ line. good-same line t early)))
@@ -348,7 +359,7 @@ module _ (one : Scenario) (windows : List (List Window)) (orders : List DueComma
     packet-same k low =
         ap (λ rows. return_of one.options rows k)
         (same-range (packets_of one a) (packets_of other-rows b) (k + 1)
-        (λ j early. packets-same one windows orders offers n same a b alike j (omega (arith, early, low))))
+        (λ j early. packets-same one parts later n same a b alike j (omega (arith, early, low))))
 
     -- ---- refusals
     source-met : (due : ℕ) (earlier : List Item) → due ≤ n →
@@ -451,14 +462,9 @@ module _ (config : Config) (live : Live) (windows windows' : List (List Window))
     (agrees : Agrees config live (leg_with config windows items))
     (agrees' : Agrees config live (leg_with config windows' items'))
   where
-    abbrev leg : Leg
-    leg = leg_with config windows items
-
-    abbrev other-legs : Leg
-    other-legs = leg_with config windows' items'
-
     carried-same : (line t : ℕ) → t < live.passed →
-        carried_by (scenario_by leg) line t ≡ carried_by (scenario_by other-legs) line t
+        carried_by (scenario_by (leg_with config windows items)) line t
+        ≡ carried_by (scenario_by (leg_with config windows' items')) line t
     carried-same line t low =
         let size : length windows ≡ length live.courses = agrees.lines in
         let size' : length windows' ≡ length live.courses = agrees'.lines in
@@ -469,7 +475,8 @@ module _ (config : Config) (live : Live) (windows windows' : List (List Window))
               ∙ sym (ap (λ own. carried own t) (get_or_past windows' line [] (omega (arith, past, size'))))
         ]
 
-    pub same-below : SameBelow (scenario_by leg) (scenario_by other-legs) live.passed
+    pub same-below : SameBelow (scenario_by (leg_with config windows items))
+        (scenario_by (leg_with config windows' items')) 0 live.passed
     same-below = record {
       some = omega (arith, lag);
       most = most;
@@ -481,41 +488,82 @@ module _ (config : Config) (live : Live) (windows windows' : List (List Window))
       offers = λ t low.
           ap (map (λ offer. offer.frame))
           (offers-so-far live items agrees.items t low ∙ sym (offers-so-far live items' agrees'.items t low));
+      lost = λ k low. refl;
+      tells = λ k low. refl;
     }
 
-    pub alike-legs : Alike (scenario_by leg) (session_of leg) (scenario_by other-legs) (session_of other-legs) live.passed
-    alike-legs = alike-session (scenario_by leg) windows' (orders_of items') (offers_of items') live.passed same-below
+-- ---- a leg with the failures, losses, items and tellings of another one
+abbrev pub leg_from : Leg → Leg → Leg
+leg_from leg parts = record {
+  config = record leg.config { windows = parts.config.windows; lost = parts.config.lost };
+  items = parts.items;
+  tells = parts.tells;
+}
 
-    pub tables-same : (j : ℕ) → j < steps_in live.passed → table_in leg (16 * j + 9) ≡ table_in other-legs (16 * j + 9)
+module _ (leg parts : Leg) (later n : ℕ)
+    (same : SameBelow (scenario_by leg) (scenario_by (leg_from leg parts)) later n)
+  where
+    abbrev other-legs : Leg
+    other-legs = leg_from leg parts
+
+    pub alike-legs : Alike (scenario_by leg) (session_of leg) (scenario_by other-legs) (session_of other-legs) n
+    alike-legs = alike-session (scenario_by leg) (scenario_by parts) later n same
+
+    pub tables-same : (j : ℕ) → j < steps_in n → table_in leg (16 * j + 9) ≡ table_in other-legs (16 * j + 9)
     tables-same j low =
         ap (λ source. source.table)
-        (alike-after (scenario_by leg) (session_of leg) (scenario_by other-legs) (session_of other-legs) live.passed
+        (alike-after (scenario_by leg) (session_of leg) (scenario_by other-legs) (session_of other-legs) n
         (steps_in (16 * j + 9)) alike-legs (omega (arith, low)))
 
-    pub waiting-same : (t : ℕ) → t ≤ live.passed → waiting_at leg t ≡ waiting_at other-legs t
+    pub delivered-same : (rows : ℕ) → rows ≤ n → delivered_of leg rows ≡ delivered_of other-legs rows
+    delivered-same rows low =
+        ap (deliver longest_frame)
+        (rows-same (scenario_by leg) (scenario_by parts) later n same (session_of leg) (session_of other-legs) alike-legs
+        rows low)
+
+    pub waiting-same : (t : ℕ) → t ≤ n → waiting_at leg t ≡ waiting_at other-legs t
     waiting-same t low =
         ap (λ (stream : Stream). length stream.waiting)
         (alike-stream (scenario_by leg) (session_of leg) (scenario_by other-legs) (session_of other-legs) t
-        (Alike-sooner (scenario_by leg) (session_of leg) (scenario_by other-legs) (session_of other-legs) t live.passed
-        low alike-legs))
+        (Alike-sooner (scenario_by leg) (session_of leg) (scenario_by other-legs) (session_of other-legs) t n low
+        alike-legs))
+
+    pub refused-same : (due : ℕ) (earlier : List Item) (kind : ItemKind) → due ≤ n →
+        kind_refusal (scenario_by leg) (session_of leg) due earlier kind
+        ≡ kind_refusal (scenario_by other-legs) (session_of other-legs) due earlier kind
+    refused-same due earlier kind low =
+        refusal-same (scenario_by leg) (scenario_by parts) later n same (session_of leg) (session_of other-legs) alike-legs
+        due earlier kind low
+
+    pub sent-same : (line t : ℕ) → line < length leg.config.windows → t < n →
+        sent_at leg line t ≡ sent_at other-legs line t
+    sent-same line t inside low =
+        container-same (scenario_by leg) (scenario_by parts) later n same (session_of leg) (session_of other-legs)
+        alike-legs line t inside low
 
     module _ (can : CanWalk leg) (can' : CanWalk other-legs) where
-      back-same : (k : ℕ) → 16 * k + 24 ≤ live.passed → back_cell leg k ≡ back_cell other-legs k
-      back-same k low =
-          ap (λ packet. if is_lost (scenario_by leg) k then Lost else Nibbles (packet_nibbles packet))
-          (packet-is leg can k (omega (arith, low, most))
-          ∙ packet-same (scenario_by leg) windows' (orders_of items') (offers_of items') live.passed same-below
-          (session_of leg) (session_of other-legs) alike-legs k low
-          ∙ sym (packet-is other-legs can' k (omega (arith, low, most))))
+      pub packet-same-legs : (k : ℕ) → 16 * k + 24 ≤ n → said_packet leg k ≡ said_packet other-legs k
+      packet-same-legs k low =
+          let most = same.most in
+          packet-is leg can k (omega (arith, low, most))
+          ∙ packet-same (scenario_by leg) (scenario_by parts) later n same (session_of leg) (session_of other-legs)
+          alike-legs k low
+          ∙ sym (packet-is other-legs can' k (omega (arith, low, most)))
 
-      pub cells-same-legs : (j : ℕ) → j < steps_in live.passed → cell_taken leg j ≡ cell_taken other-legs j
+      back-same : (k : ℕ) → 16 * (k + later) + 24 ≤ n → back_cell leg k ≡ back_cell other-legs k
+      back-same k low =
+          ap₂ (λ lost packet. if lost then Lost else Nibbles (packet_nibbles packet)) (same.lost k low)
+          (packet-same-legs k (omega (arith, low)))
+
+      pub cells-same-legs : (j : ℕ) → j < steps_in n → cell_taken leg j ≡ cell_taken other-legs j
       cells-same-legs j low =
-          elim (nat_le config.lag j) as (λ c. nat_le config.lag j ≡ c →
-          (if c then Some (back_cell leg (j - config.lag)) else None)
-          ≡ (if c then Some (back_cell other-legs (j - config.lag)) else None)) [
+          let some = same.some in
+          elim (nat_le leg.config.lag j) as (λ c. nat_le leg.config.lag j ≡ c →
+          (if c then Some (back_cell leg (j - leg.config.lag)) else None)
+          ≡ (if c then Some (back_cell other-legs (j - leg.config.lag)) else None)) [
             | true ↦ λ e.
-                let late = leb-true config.lag j e in
-                ap Some (back-same (j - config.lag) (omega (arith, late, lag, low)))
+                let late = leb-true leg.config.lag j e in
+                ap Some (back-same (j - leg.config.lag) (omega (arith, late, some, low)))
             | false ↦ λ e. refl
           ] refl
 
@@ -569,47 +617,39 @@ path-same f g m (container ∷ containers) same =
     ap₂ (λ fate rest. cells_of fate container ++ rest) (same m (omega arith) (omega arith))
     (path-same f g (suc m) containers (λ t low high. same t (omega (arith, low)) (omega (arith, high))))
 
-module _ (config : Config) (live : Live) (windows windows' : List (List Window)) (items items' : List Item)
-    (lag : 1 ≤ config.lag) (most : live.passed ≤ config.ticks)
-    (agrees : Agrees config live (leg_with config windows items))
-    (agrees' : Agrees config live (leg_with config windows' items'))
+module _ (leg-paths parts : Leg) (later n : ℕ)
+    (same : SameBelow (scenario_by leg-paths) (scenario_by (leg_from leg-paths parts)) later n)
   where
-    abbrev leg-paths : Leg
-    leg-paths = leg_with config windows items
-
     abbrev other-paths : Leg
-    other-paths = leg_with config windows' items'
+    other-paths = leg_from leg-paths parts
 
-    sent-same : (line : ℕ) → line < length windows →
-        containers_of (scenario_by leg-paths) (session_of leg-paths) line live.passed
-        ≡ containers_of (scenario_by other-paths) (session_of other-paths) line live.passed
-    sent-same line inside =
+    all-sent : (line : ℕ) → line < length leg-paths.config.windows →
+        containers_of (scenario_by leg-paths) (session_of leg-paths) line n
+        ≡ containers_of (scenario_by other-paths) (session_of other-paths) line n
+    all-sent line inside =
         same-range (container_of (scenario_by leg-paths) (session_of leg-paths) line)
-        (container_of (scenario_by other-paths) (session_of other-paths) line) live.passed
-        (λ t early. container-same (scenario_by leg-paths) windows' (orders_of items') (offers_of items') live.passed
-        (same-below config live windows windows' items items' lag most agrees agrees') (session_of leg-paths)
-        (session_of other-paths) (alike-legs config live windows windows' items items' lag most agrees agrees') line t inside
-        early)
+        (container_of (scenario_by other-paths) (session_of other-paths) line) n
+        (λ t early. sent-same leg-paths parts later n same line t inside early)
 
-    given-same : (line x : ℕ) → line < length windows → min x config.ticks ≤ live.passed →
-        given (scenario_by leg-paths) (session_of leg-paths) line config.ticks (delay_on leg-paths line) x
-        ≡ given (scenario_by other-paths) (session_of other-paths) line config.ticks (delay_on leg-paths line) x
+    given-same : (line x : ℕ) → line < length leg-paths.config.windows → min x leg-paths.config.ticks ≤ n →
+        given (scenario_by leg-paths) (session_of leg-paths) line leg-paths.config.ticks (delay_on leg-paths line) x
+        ≡ given (scenario_by other-paths) (session_of other-paths) line leg-paths.config.ticks (delay_on leg-paths line) x
     given-same line x inside low =
         let d : ℕ = delay_on leg-paths line in
         let here : ℕ → Carried = carried_by (scenario_by leg-paths) line in
         let there : ℕ → Carried = carried_by (scenario_by other-paths) line in
-        let now : List Container = containers_of (scenario_by other-paths) (session_of other-paths) line live.passed in
-        let size : length now ≡ live.passed =
-        containers-size (scenario_by other-paths) (session_of other-paths) line live.passed in
+        let now : List Container = containers_of (scenario_by other-paths) (session_of other-paths) line n in
+        let size : length now ≡ n =
+        containers-size (scenario_by other-paths) (session_of other-paths) line n in
         let few = length-take (x - d) now in
-        sym (given-whole (scenario_by leg-paths) (session_of leg-paths) line live.passed d x most low)
-        ∙ ap (λ containers. cells here d config.ticks containers x) (sent-same line inside)
-        ∙ ap (λ l. l ++ end_of config.ticks (x - d))
+        sym (given-whole (scenario_by leg-paths) (session_of leg-paths) line n d x same.most low)
+        ∙ ap (λ containers. cells here d leg-paths.config.ticks containers x) (all-sent line inside)
+        ∙ ap (λ l. l ++ end_of leg-paths.config.ticks (x - d))
         (path-same here there 0 (take (x - d) now)
         (λ t from high.
-        (same-below config live windows windows' items items' lag most agrees agrees').windows line t
+        same.windows line t
         (omega (arith, high, few, size))))
-        ∙ given-whole (scenario_by other-paths) (session_of other-paths) line live.passed d x most low
+        ∙ given-whole (scenario_by other-paths) (session_of other-paths) line n d x same.most low
 
     module _ (can : CanWalk leg-paths) (can' : CanWalk other-paths) where
       whole : (leg-paths : Leg) (line x : ℕ) →
@@ -621,36 +661,36 @@ module _ (config : Config) (live : Live) (windows windows' : List (List Window))
           (sent_on (scenario_by leg-paths) line) x)
           (containers-size (scenario_by leg-paths) (session_of leg-paths) line leg-paths.config.ticks)
 
-      counts-same : (line x : ℕ) → line < length windows → min x config.ticks ≤ live.passed →
+      counts-same : (line x : ℕ) → line < length leg-paths.config.windows → min x leg-paths.config.ticks ≤ n →
           (path_on leg-paths line).given x ≡ (path_on other-paths line).given x
       counts-same line x inside low =
           ap length (whole leg-paths line x ∙ given-same line x inside low ∙ sym (whole other-paths line x))
 
-      path-alike : (line : ℕ) → line < length windows →
-          PathAlike config.ticks live.passed (path_on leg-paths line) (path_on other-paths line)
+      path-alike : (line : ℕ) → line < length leg-paths.config.windows →
+          PathAlike leg-paths.config.ticks n (path_on leg-paths line) (path_on other-paths line)
       path-alike line inside = record {
         delay = refl;
         given = λ x low. counts-same line x inside low;
         decided = λ x y fits low few.
             ap₂ (λ total cells. decided_in total (reading_of cells))
-            (containers-size (scenario_by leg-paths) (session_of leg-paths) line config.ticks
-            ∙ sym (containers-size (scenario_by other-paths) (session_of other-paths) line config.ticks))
+            (containers-size (scenario_by leg-paths) (session_of leg-paths) line leg-paths.config.ticks
+            ∙ sym (containers-size (scenario_by other-paths) (session_of other-paths) line leg-paths.config.ticks))
             (line-first leg-paths line x y fits few
             ∙ ap (take y) (given-same line x inside low)
             ∙ sym (line-first other-paths line x y fits (subst (λ count. y ≤ count) (counts-same line x inside low) few)));
       }
 
-      pub paths-alike : PathsAlike config.ticks live.passed (walk_plan leg-paths).paths (walk_plan other-paths).paths
+      pub paths-alike : PathsAlike leg-paths.config.ticks n (walk_plan leg-paths).paths (walk_plan other-paths).paths
       paths-alike =
-          alike-from config.ticks live.passed (walk_plan leg-paths).paths (walk_plan other-paths).paths
-          (has-paths leg-paths can ∙ agrees.lines ∙ sym agrees'.lines ∙ sym (has-paths other-paths can'))
+          alike-from leg-paths.config.ticks n (walk_plan leg-paths).paths (walk_plan other-paths).paths
+          (has-paths leg-paths can ∙ same.lines ∙ sym (has-paths other-paths can'))
           (λ m one two here there.
           let within = slice_get_within (walk_plan leg-paths).paths m one here in
           let size = has-paths leg-paths can in
-          let sizes : length windows ≡ length windows' = agrees.lines ∙ sym agrees'.lines in
-          let inside : m < length windows = omega (arith, within, size) in
-          let inside' : m < length windows' = omega (arith, inside, sizes) in
+          let sizes = same.lines in
+          let inside : m < length leg-paths.config.windows = omega (arith, within, size) in
+          let inside' : m < length parts.config.windows = omega (arith, inside, sizes) in
           let e : path_on leg-paths m ≡ one = same_Some (path_on leg-paths m) one (sym (line-path leg-paths can m inside) ∙ here) in
           let f : path_on other-paths m ≡ two = same_Some (path_on other-paths m) two (sym (line-path other-paths can' m inside') ∙ there) in
-          subst (λ one. PathAlike config.ticks live.passed one two) e
-          (subst (λ two. PathAlike config.ticks live.passed (path_on leg-paths m) two) f (path-alike m inside)))
+          subst (λ one. PathAlike leg-paths.config.ticks n one two) e
+          (subst (λ two. PathAlike leg-paths.config.ticks n (path_on leg-paths m) two) f (path-alike m inside)))

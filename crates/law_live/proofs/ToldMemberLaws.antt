@@ -19,9 +19,8 @@ use Rattle.law_model.specs.declared.lcas_states.Standing.TheVariants.{Add as add
 use Rattle.law_model.specs.Common.{Leg, Table, after, ctrl_by, is_normal, place_in, scenario_by, state_by, state_in, state_of}
 use Rattle.law_model.specs.Common.{steps_in}
 use Rattle.law_walk.specs.Common.{session_of, table_in}
-use Rattle.law_live.specs.Common.{Differ, MemberTold, Saying, answers, code_at, codes_of, last_code, live_counts}
+use Rattle.law_live.specs.Common.{Answer, Differ, MemberTold, code_at, codes_of, last_code, steps_made}
 use Rattle.law_live.specs.Common.{code_after, plain_code, member_code, members_in, members_told, told_among, told_by, told_of}
-use Rattle.law_live.proofs.AgreeingLegConversationLaws.{answers-steps}
 
 -- ---- codes one behind the other
 differ-more : (was : List ℕ) (xs ys : List (List ℕ)) → Differ was xs → Differ (last_code was xs) ys → Differ was (xs ++ ys)
@@ -194,10 +193,6 @@ upto-more leg n =
     ∙ flat_map-append (members_in leg) (range_with_len 0 n) (n ∷ [])
     ∙ ap (λ l. upto leg n ++ l) (append-nil (members_in leg n))
 
-pub upto-told : (leg : Leg) (said : List Saying) →
-    members_told leg (answers leg said) ≡ upto leg (steps_in (live_counts leg said).ticks)
-upto-told leg said = ap (flat_map (members_in leg)) (answers-steps leg said)
-
 -- of a line the codes differ, and the last one is how it stands
 record IsTold (leg : Leg) (m n : ℕ) : Type 0 where
   differ : Differ (codes "idle") (codes_of m (upto leg n))
@@ -252,22 +247,6 @@ told-upto : (leg : Leg) (m n : ℕ) → IsTold leg m n
 told-upto leg m zero = told-none leg m
 told-upto leg m (suc n) = subst (IsTold leg m) (one-more n) (told-next leg m n (told-upto leg m n))
 
--- ---- of all that is answered
-pub told-differ : (leg : Leg) (said : List Saying) (m : ℕ) →
-    Differ (codes "idle") (codes_of m (members_told leg (answers leg said)))
-told-differ leg said m =
-    subst (λ l. Differ (codes "idle") (codes_of m l)) (sym (upto-told leg said))
-    (told-upto leg m (steps_in (live_counts leg said).ticks)).differ
-
-pub told-last : (leg : Leg) (said : List Saying) (m : ℕ) → m < leg.config.lines →
-    last_code (codes "idle") (codes_of m (members_told leg (answers leg said)))
-    ≡ code_at leg (live_counts leg said).ticks m
-told-last leg said m low =
-    let ticks : ℕ = (live_counts leg said).ticks in
-    ap (λ l. last_code (codes "idle") (codes_of m l)) (upto-told leg said)
-    ∙ (told-upto leg m (steps_in ticks)).last low
-    ∙ code-steps leg (16 * steps_in ticks) ticks m (omega arith)
-
 -- ---- up to a step
 by-all : (t : ℕ) (xs : List MemberTold) → All (λ (one : MemberTold). one.ticks ≤ t) xs → told_by t xs ≡ xs
 by-all t [] all = refl
@@ -317,16 +296,30 @@ upto-by leg j (suc k) =
     (λ one is. omega (arith, is)) (members_in leg n) (step-ticks leg n)))
     ∙ append-nil (upto leg (j + 1)))
 
-pub told-step : (leg : Leg) (said : List Saying) (m j : ℕ) → m < leg.config.lines →
-    16 * j + 8 < (live_counts leg said).ticks →
-    last_code (codes "idle") (codes_of m (told_by (16 * j + 9) (members_told leg (answers leg said))))
-    ≡ code_at leg (16 * j + 9) m
-told-step leg said m j low made =
-    let n : ℕ = steps_in (live_counts leg said).ticks in
-    let k : ℕ = n - (j + 1) in
-    let sum : j + 1 + k ≡ n = omega (arith, made) in
-    ap (λ l. last_code (codes "idle") (codes_of m (told_by (16 * j + 9) l)))
-    (upto-told leg said ∙ ap (upto leg) (sym sum))
-    ∙ ap (λ l. last_code (codes "idle") (codes_of m l)) (upto-by leg j k)
-    ∙ (told-upto leg m (j + 1)).last low
-    ∙ code-steps leg (16 * (j + 1)) (16 * j + 9) m (omega arith)
+-- ---- of all that is told, where that are the steps of so many ticks
+module _ (leg : Leg) (told : List Answer) (ticks : ℕ) (is : steps_made told ≡ range_with_len 0 (steps_in ticks)) where
+  upto-told : members_told leg told ≡ upto leg (steps_in ticks)
+  upto-told = ap (flat_map (members_in leg)) is
+
+  pub told-differ : (m : ℕ) → Differ (codes "idle") (codes_of m (members_told leg told))
+  told-differ m =
+      subst (λ l. Differ (codes "idle") (codes_of m l)) (sym upto-told) (told-upto leg m (steps_in ticks)).differ
+
+  pub told-last : (m : ℕ) → m < leg.config.lines →
+      last_code (codes "idle") (codes_of m (members_told leg told)) ≡ code_at leg ticks m
+  told-last m low =
+      ap (λ l. last_code (codes "idle") (codes_of m l)) upto-told
+      ∙ (told-upto leg m (steps_in ticks)).last low
+      ∙ code-steps leg (16 * steps_in ticks) ticks m (omega arith)
+
+  pub told-step : (m j : ℕ) → m < leg.config.lines → 16 * j + 8 < ticks →
+      last_code (codes "idle") (codes_of m (told_by (16 * j + 9) (members_told leg told)))
+      ≡ code_at leg (16 * j + 9) m
+  told-step m j low made =
+      let n : ℕ = steps_in ticks in
+      let k : ℕ = n - (j + 1) in
+      let sum : j + 1 + k ≡ n = omega (arith, made) in
+      ap (λ l. last_code (codes "idle") (codes_of m (told_by (16 * j + 9) l))) (upto-told ∙ ap (upto leg) (sym sum))
+      ∙ ap (λ l. last_code (codes "idle") (codes_of m l)) (upto-by leg j k)
+      ∙ (told-upto leg m (j + 1)).last low
+      ∙ code-steps leg (16 * (j + 1)) (16 * j + 9) m (omega arith)

@@ -23,3 +23,14 @@ pub use Rattle.law_live.specs.LiveQueue.{changed_number, queue_text, queue_texts
 pub use Rattle.law_live.specs.LiveQueue.{accepted_one, reckoned_to, reckoned}
 unfoldable pub use Rattle.law_live.specs.LiveQueue.{last_number, AreOthers, reckoned_from}
 pub use Rattle.law_live.specs.Agrees.{IsSameBelow, HasLater, Agrees}
+pub use Rattle.law_live.specs.PairSayings.{PairSaying, lands_on, cuts_on, mends_on, both_pass, if_on, saying_on, said_on}
+pub use Rattle.law_live.specs.PairSayings.{config_on, IsPairNetwork, IsPairSaid, script_on, PairAgrees, ArePairs, both_passed}
+pub use Rattle.law_live.specs.PairSayingCounts.{pair_turn, turn_both, turns_for, both_said, pair_counts}
+unfoldable pub use Rattle.law_live.specs.PairSayingCounts.{after_turns, turns_until, both_from}
+pub use Rattle.law_live.specs.PairAnswers.{PairAnswer, way_told, both_at, leg_on, steps_told, frames_told, turn_answers}
+pub use Rattle.law_live.specs.PairAnswers.{queue_told, both_end, both_answer, pair_answers, answer_on, answers_on, pair_time_of, pair_times}
+pub use Rattle.law_live.specs.PairAnswers.{way_word, refused_way_text}
+pub use Rattle.law_live.specs.PairAnswers.{got_way_text, member_way_text, queue_way_text, told_way, way_answer_text}
+pub use Rattle.law_live.specs.PairAnswers.{pair_answer_text, pair_answers_text, total_way_text, totals_on, last_pair_text}
+pub use Rattle.law_live.specs.PairAnswers.{reckoned_by, both_reckoned}
+unfoldable pub use Rattle.law_live.specs.PairAnswers.{turns_answers, pair_answers_from, both_reckoned_from}

@@ -6,5 +6,9 @@ pub mod LiveAnswers
 pub mod LiveMembers
 pub mod LiveQueue
 pub mod Agrees
+pub mod PairSayings
+pub mod PairSayingCounts
+pub mod PairAnswers
+pub mod WorkedPairSayings
 pub mod WorkedSayings
 pub mod Common
