@@ -17,15 +17,17 @@ use Rattle.law_walk.proofs.WholeRowDespiteFailureLaws.{clear-within, clear-read,
 use Rattle.law_service.specs.cost_of_failures.Cost.{FailsBy, first_hit, end_packet, Spoils}
 use Rattle.law_model.specs.declared.script_types.Options.{Options}
 use Rattle.std.proofs.lemmas.Option.{none-some, slice_get-map}
-use Rattle.law_model.specs.declared.lcas_states.Standing.TheVariants.{Norm as normal}
+use Rattle.law_model.specs.declared.lcas_states.Standing.{Standing}
+use Rattle.law_model.specs.declared.lcas_states.Standing.TheVariants.{Norm as normal, Dnu as unused}
 use Rattle.law_model.specs.declared.lcas_states.Member.{Member}
 use Rattle.law_model.specs.declared.lcas_states.Command.{Command}
 use Rattle.law_model.specs.declared.lcas_states.Command.TheVariants.{Add as add, Remove as remove}
-use Rattle.law_model.specs.source.Table.{is_add}
+use Rattle.law_model.specs.source.Table.{is_add, turn}
 use Rattle.law_session.specs.Feedback.{lines_of, table_before}
 use Rattle.law_session.specs.TimedMembers.{IsUpWithWord}
 use Rattle.law_session.proofs.DecisionStepMemberLaws.{heard-order}
-use Rattle.law_session.proofs.AdmittedAndExchangedLineLaws.{Has, Has-standing, turned-normal}
+use Rattle.law_session.proofs.AdmittedAndExchangedLineLaws.{Has, Has-standing, turned-normal, turned_member}
+use Rattle.law_session.proofs.AdmittedAndExchangedLineLaws.{slice_get-turned}
 use Rattle.law_session.proofs.ReturnCellAndLineWordLaws.{IsSession, cell-taken, says_count, known, none_kept-at}
 use Rattle.law_session.proofs.ReturnCellAndLineWordLaws.{keep-at, full-after}
 use Rattle.law_session.proofs.AddedLineWaitLaws.{after-change, told_at-table, kept-is}
@@ -260,37 +262,54 @@ soonest statuses from group k (inr long) low same =
     let e : group ≡ k % 32 = rw long at same in rw long (omega arith)
 
 -- ---- How long a line stays in use while nothing tells the source of its failure.
--- ---- a line in NORM stays so in one step
-admit_on-normal : (adds ok : Bool) (member : Member) (rest order : List Member) (line : ℕ) →
-    is_adding member ≡ adds → Has (member ∷ order) 0 line normal →
-    Has (if not adds then member ∷ rest else if ok then in_use member ∷ rest else member ∷ order) 0 line normal
-admit_on-normal false ok member rest order line e has = has
-admit_on-normal true ok member rest order line e has =
-    absurd (let other : is_adding member ≡ false = ap is_add (Has-standing member line normal has) in cc)
+-- ---- a line that isn't in ADD stays where it is in one step, but for what is kept of it
+admit_on-old : (adds ok : Bool) (member : Member) (rest order : List Member) (line : ℕ) (standing : Standing) →
+    is_add standing ≡ false → is_adding member ≡ adds → Has (member ∷ order) 0 line standing →
+    Has (if not adds then member ∷ rest else if ok then in_use member ∷ rest else member ∷ order) 0 line standing
+admit_on-old false ok member rest order line standing old e has = has
+admit_on-old true ok member rest order line standing old e has =
+    absurd (let other : is_adding member ≡ false = ap is_add (Has-standing member line standing has) ∙ old in cc)
 
-admit_on-rest : (adds ok : Bool) (member : Member) (rest order : List Member) (sq line : ℕ) →
-    Has order sq line normal → Has rest sq line normal →
-    Has (if not adds then member ∷ rest else if ok then in_use member ∷ rest else member ∷ order) (suc sq) line normal
-admit_on-rest false ok member rest order sq line has on = on
-admit_on-rest true true member rest order sq line has on = on
-admit_on-rest true false member rest order sq line has on = has
+admit_on-rest : (adds ok : Bool) (member : Member) (rest order : List Member) (sq line : ℕ) (standing : Standing) →
+    Has order sq line standing → Has rest sq line standing →
+    Has (if not adds then member ∷ rest else if ok then in_use member ∷ rest else member ∷ order) (suc sq) line standing
+admit_on-rest false ok member rest order sq line standing has on = on
+admit_on-rest true true member rest order sq line standing has on = on
+admit_on-rest true false member rest order sq line standing has on = has
 
-admit-normal : (kept : ℕ → Option Bool) (base : ℕ) (order : List Member) (sq line : ℕ) → Has order sq line normal →
-    Has (admit kept base order) sq line normal
+admit-old : (kept : ℕ → Option Bool) (base : ℕ) (order : List Member) (sq line : ℕ) (standing : Standing) →
+    is_add standing ≡ false → Has order sq line standing → Has (admit kept base order) sq line standing
 unfolding admit
-admit-normal kept base [] sq line has = has
-admit-normal kept base (member ∷ order) zero line has =
-    admit_on-normal (is_adding member) (is_ok (kept base)) member (admit kept (base + 1) order) order line refl has
-admit-normal kept base (member ∷ order) (suc sq) line has =
-    admit_on-rest (is_adding member) (is_ok (kept base)) member (admit kept (base + 1) order) order sq line has
-    (admit-normal kept (base + 1) order sq line has)
+admit-old kept base [] sq line standing old has = has
+admit-old kept base (member ∷ order) zero line standing old has =
+    admit_on-old (is_adding member) (is_ok (kept base)) member (admit kept (base + 1) order) order line standing old
+    refl has
+admit-old kept base (member ∷ order) (suc sq) line standing old has =
+    admit_on-rest (is_adding member) (is_ok (kept base)) member (admit kept (base + 1) order) order sq line standing has
+    (admit-old kept (base + 1) order sq line standing old has)
+
+turn-unused : (kept : Option Bool) → (kept ≡ Some true → ⊥) → turn kept unused ≡ unused
+turn-unused None other = refl
+turn-unused (Some false) other = refl
+turn-unused (Some true) other = absurd (other refl)
+
+pub told_on-unused : (table : Table) (sq line : ℕ) → (kept_of table sq ≡ Some true → ⊥) →
+    Has table.order sq line unused → Has (told_on table).order sq line unused
+told_on-unused table sq line other has =
+    let e : 0 + sq ≡ sq = omega arith in
+    let order = admit (kept_of table) 0 table.order in
+    let there : Has order sq line unused = admit-old (kept_of table) 0 table.order sq line unused refl has in
+    let at : slice_get (told_on table).order sq ≡ option_map (turned_member (kept_of table sq)) (slice_get order sq) =
+    rw e at (slice_get-turned (kept_of table) 0 order sq) in
+    at ∙ ap (option_map (turned_member (kept_of table sq))) there
+    ∙ ap (λ standing. Some (member_of line standing)) (turn-unused (kept_of table sq) other)
 
 told_on-normal : (table : Table) (sq line : ℕ) → is_fail (kept_of table sq) ≡ false →
     Has table.order sq line normal → Has (told_on table).order sq line normal
 told_on-normal table sq line fine has =
     let e : 0 + sq ≡ sq = omega arith in
     turned-normal (kept_of table) 0 (admit (kept_of table) 0 table.order) sq line (rw e fine)
-    (admit-normal (kept_of table) 0 table.order sq line has)
+    (admit-old (kept_of table) 0 table.order sq line normal refl has)
 
 -- ---- no FAIL is kept of a line in NORM
 abbrev IsNew : Source → Table → Type 0

@@ -24,7 +24,8 @@ use Rattle.law_session.proofs.SourceOrderAndPlanLaws.{order-length}
 use Rattle.law_session.proofs.ReturnCellAndLineWordLaws.{session-cell, session-law}
 use Rattle.law_walk.specs.Common.{session_of, IsClear, row_from}
 use Rattle.law_walk.proofs.WholeRowDespiteFailureLaws.{clear-within, clear-read, clear-good}
-use Rattle.law_service.specs.cost_of_failures.Cost.{windows_of, FailsBy, StaysClear, first_hit, FailsOnce, IsSpared}
+use Rattle.law_service.specs.cost_of_failures.Cost.{windows_of, FailsBy, StaysClear, first_hit, FailsOnce}
+use Rattle.law_service.specs.cost_of_failures.Cost.{IsSpared, table_at}
 use Rattle.law_service.specs.cost_of_failures.Cost.{IsSparedFor, cost_end, FailTogether, HasSq, SaysOf, end_packet}
 use Rattle.law_service.specs.cost_of_failures.Cost.{Spoils, IsSpoiled, spoiled_rows, round_rows}
 use Rattle.law_service.proofs.QuietStepAndKeptStatusLaws.{IsQuiet, Has-in_lines, last-said, norm-up, up-stands}
@@ -32,7 +33,7 @@ use Rattle.law_service.proofs.QuietStepAndKeptStatusLaws.{count-before}
 use Rattle.law_service.proofs.FailingLineArrivalAndUseLaws.{window-some, behind-clear, spoils-or, before-clear}
 use Rattle.law_service.proofs.FailingLineArrivalAndUseLaws.{spoils-arrives, spared-arrives, read-up, up-behind, latest}
 use Rattle.law_service.proofs.FailingLineArrivalAndUseLaws.{next_in, in-turn, stays-normal, soonest}
-use Rattle.law_service.specs.cost_of_failures.CostInNumbers.{first_told, WasUsed, WereUsed, IsHit}
+use Rattle.law_service.specs.cost_of_failures.CostInNumbers.{first_told, WasUp, WasUsed, WereUsed, IsHit}
 
 -- ---- What a failure costs: which rows are whole, and how a line stands, by what its windows damage.
 -- ---- lists
@@ -513,17 +514,17 @@ module _ (leg : Leg) (sound : IsSound leg) (from horizon : ℕ) (once : FailsOnc
 
   -- a line is up before its failure, and while the hold-off runs
   untold-up : (line sq k : ℕ) (window : Window) → FailsBy (windows_of leg line) window from horizon →
-      slice_get (lines_of (table_before scenario-cost cells-cost first-cost).order) sq ≡ Some line → WasUsed leg from sq line →
-      first-cost ≤ k → k < first_hit window.first + leg.config.options.holdoff → 16 * k + 24 < horizon →
+      slice_get (lines_of (table_before scenario-cost cells-cost first-cost).order) sq ≡ Some line →
+      WasUp leg from line → first-cost ≤ k → k < first_hit window.first + leg.config.options.holdoff → 16 * k + 24 < horizon →
       is_line_up scenario-cost line k ≡ true
-  untold-up line sq k window fails has used low held near =
+  untold-up line sq k window fails has up low held near =
       let some = failing-some leg sound from horizon once line window fails in
       let begins = fails.late in
       let lag = sound.network.lag.0 in
       elim (cases_lt 0 first-cost) [
         | inr none ↦ absurd (none-before leg sound from horizon once sq line (omega arith) has)
         | inl hit ↦
-            let before = used.up (first-cost - 1) (omega arith) (omega arith) in
+            let before = up (first-cost - 1) (omega arith) (omega arith) in
             let inside = line-inside scenario-cost cells-cost first-cost sq line has in
             up-held leg.config.options (is_read scenario-cost line) (first-cost - 1)
             (min (first_hit window.first + leg.config.options.holdoff - 1) k) k before.0
@@ -539,12 +540,13 @@ module _ (leg : Leg) (sound : IsSound leg) (from horizon : ℕ) (once : FailsOnc
             (omega arith) (omega arith)
       ]
 
-  -- a line stays in use until the source is told
-  cost-untold : (line sq t : ℕ) (window : Window) → FailsBy (windows_of leg line) window from horizon →
-      slice_get (lines_of (table_before scenario-cost cells-cost first-cost).order) sq ≡ Some line → WasUsed leg from sq line →
+  -- a line that is in use in a step stays so until the source is told
+  pub cost-kept : (line sq i t : ℕ) (window : Window) → FailsBy (windows_of leg line) window from horizon →
+      slice_get (lines_of (table_before scenario-cost cells-cost first-cost).order) sq ≡ Some line →
+      WasUp leg from line → Has (table_before scenario-cost cells-cost i).order sq line normal → first-cost ≤ i → i ≤ suc ((t - 24) / 16) →
       24 ≤ t → from ≤ t → t < horizon → t < 16 * (first_told leg window sq + leg.config.lag) + 24 →
       Has (table_of scenario-cost cells-cost ((t - 24) / 16)).order sq line normal
-  cost-untold line sq t window fails has used late low high untold =
+  cost-kept line sq i t window fails has up used since upto late low high untold =
       let j : ℕ = (t - 24) / 16 in
       let some = failing-some leg sound from horizon once line window fails in
       let begins = fails.late in
@@ -553,15 +555,16 @@ module _ (leg : Leg) (sound : IsSound leg) (from horizon : ℕ) (once : FailsOnc
       let quiet = is-quiet leg sound from horizon once j (omega arith) in
       let told : ℕ = first_told leg window sq in
       let soon : j < told + leg.config.lag = omega arith in
-      let place : suc j - first-cost + first-cost ≡ suc j = omega arith in
-      let stays = stays-normal scenario-cost cells-cost (session-law scenario-cost (packets scenario-cost) (omega arith)) (omega arith)
-      first-cost sq line (suc j - first-cost) small used.stands
+      let place : suc j - i + i ≡ suc j = omega arith in
+      let session = session-law scenario-cost (packets scenario-cost) (omega arith) in
+      let stays = stays-normal scenario-cost cells-cost session (omega arith) i sq line (suc j - i) small used
       (λ k start before.
-      once.still k start (omega arith) ∙ sym (count-before scenario-cost cells-cost first-cost j quiet k start (omega arith)))
+      once.still k (omega arith) (omega arith)
+      ∙ sym (count-before scenario-cost cells-cost first-cost j quiet k (omega arith) (omega arith)))
       (λ k start before group. elim (cases_lt k first-cost) [
-        | inl old ↦ used.up k old start
+        | inl old ↦ up k old (omega arith)
         | inr new ↦ (
-          untold-up line sq k window fails has used new
+          untold-up line sq k window fails has up new
               (elim (cases_lt k (first_hit window.first + leg.config.options.holdoff)) [
                 | inl held ↦ held
                 | inr late_on ↦
@@ -574,7 +577,7 @@ module _ (leg : Leg) (sound : IsSound leg) (from horizon : ℕ) (once : FailsOnc
           has-word leg sound from horizon once sq line k new (omega arith) has,
         )
       ]) in
-      let there : Has (table_before scenario-cost cells-cost (suc j - first-cost + first-cost)).order sq line normal = stays in
+      let there : Has (table_before scenario-cost cells-cost (suc j - i + i)).order sq line normal = stays in
       rw place at there
 
   -- one whose failure no status says is in use all the time
@@ -603,23 +606,21 @@ module _ (leg : Leg) (sound : IsSound leg) (from horizon : ℕ) (once : FailsOnc
       stays in
       rw place at there
 
-  pub cost-hit : (t : ℕ) → 24 ≤ t → from ≤ t → t < horizon → is_whole_row scenario-cost cells-cost t ≡ false →
-      IsHit leg from horizon t
-  cost-hit t late low high broken =
+  -- a row that isn't whole is spoiled before the source is told
+  pub cost-caught : (t : ℕ) → 24 ≤ t → from ≤ t → t < horizon → is_whole_row scenario-cost cells-cost t ≡ false →
+      (spoiled : IsSpoiled leg from horizon t)
+      × (slice_get (lines_of (table_at leg from).order) spoiled.used.0 ≡ Some spoiled.line)
+      × (t < 16 * (first_told leg spoiled.window spoiled.used.0 + leg.config.lag) + 24)
+  cost-caught t late low high broken =
       let spoiled = cost-spoiled leg sound from horizon once t late low high broken in
       let j : ℕ = (t - 24) / 16 in
       let sq = spoiled.used.0 in
       let quiet = is-quiet leg sound from horizon once j (omega arith) in
       let has = Has-in_lines scenario-cost cells-cost first-cost j quiet j sq spoiled.line normal (omega arith) (omega arith)
-      spoiled.used.1 in
-      record {
-        line = spoiled.line;
-        sq = sq;
-        window = spoiled.window;
-        has = has;
-        fails = spoiled.fails;
-        spoils = spoiled.spoils;
-        untold = elim (cases_lt t (16 * (first_told leg spoiled.window sq + leg.config.lag) + 24)) [
+      spoiled.used.1 in (
+        spoiled,
+        has,
+        elim (cases_lt t (16 * (first_told leg spoiled.window sq + leg.config.lag) + 24)) [
           | inl before ↦ before
           | inr behind ↦
               let small = few-before leg sound from horizon once first-cost sq spoiled.line has in
@@ -629,7 +630,22 @@ module _ (leg : Leg) (sound : IsSound leg) (from horizon : ℕ) (once : FailsOnc
               absurd (spoils-not leg sound from horizon once spoiled.line t spoiled.window spoiled.fails
               spoiled.spoils late high spoiled.used
               (inr (inr (first_told leg spoiled.window sq, turn.0, turn.2, behind))))
-        ];
+        ],
+      )
+
+  pub cost-hit : (t : ℕ) → 24 ≤ t → from ≤ t → t < horizon → is_whole_row scenario-cost cells-cost t ≡ false →
+      IsHit leg from horizon t
+  cost-hit t late low high broken =
+      let caught = cost-caught t late low high broken in
+      let spoiled = caught.0 in
+      record {
+        line = spoiled.line;
+        sq = spoiled.used.0;
+        window = spoiled.window;
+        has = caught.1;
+        fails = spoiled.fails;
+        spoils = spoiled.spoils;
+        untold = caught.2;
       }
 
   pub cost-closed : (t : ℕ) → leg.config.options.infers ≡ false → WereUsed leg from horizon → 24 ≤ t → from ≤ t →
@@ -642,8 +658,9 @@ module _ (leg : Leg) (sound : IsSound leg) (from horizon : ℕ) (once : FailsOnc
       fails = hit.fails;
       used = (
         hit.sq,
-        cost-untold hit.line hit.sq t hit.window hit.fails hit.has
-            (were hit.line hit.sq hit.window hit.fails hit.has) late low high hit.untold,
+        let was = were hit.line hit.sq hit.window hit.fails hit.has in
+            cost-kept hit.line hit.sq first-cost t hit.window hit.fails hit.has was.up was.stands (omega arith)
+            (omega arith) late low high hit.untold,
       );
       spoils = hit.spoils;
     }),

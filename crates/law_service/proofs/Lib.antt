@@ -6,5 +6,6 @@ mod FrameFateUnderMoreRowsLaws
 pub mod QuietStepAndKeptStatusLaws
 pub mod RepeatedTurnAndDelayLaws
 pub mod SpoiledRunsOfRowsLaws
+pub mod UnnoticedFailureLaws
 pub mod WorkedPartedLegLaws
 pub mod WorkedServiceLegLaws

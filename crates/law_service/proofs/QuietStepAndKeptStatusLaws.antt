@@ -183,6 +183,17 @@ change-there source table e there same =
       | false ↦ λ e same. cc
     ] e same
 
+-- the status that a packet that is heard says of a line of its table that has a word there
+pub status-up : (scenario : Scenario) (cells : List (Option Told)) (k sq line : ℕ) → is_heard scenario k ≡ true →
+    slice_get (lines_of (table_of scenario cells k).order) sq ≡ Some line →
+    (last : ℕ) × (word scenario cells line k ≡ Some last) → status scenario cells k sq ≡ is_line_up scenario line k
+status-up scenario cells k sq line hears there spoke =
+    let whole = said-heard scenario cells k hears in
+    elim (cases_Bool (is_line_up scenario line k)) [
+      | inl up ↦ status-holds scenario cells (suc k) k sq line spoke.0 (omega arith) whole there up spoke.1 ∙ sym up
+      | inr down ↦ status-fails scenario cells (suc k) k sq line (omega arith) whole there down ∙ sym down
+    ]
+
 module _ (scenario : Scenario) (cells : List (Option Told)) (first last : ℕ)
     (quiet : IsQuiet scenario cells first last) where
   pub count-before : (j : ℕ) → first ≤ j → j ≤ suc last →
@@ -198,7 +209,7 @@ module _ (scenario : Scenario) (cells : List (Option Told)) (first last : ℕ)
   table-told j low high =
       same-told scenario cells j (quiet.still j low high ∙ sym (count-before j low (omega arith)))
 
-  lines-before : (j : ℕ) → first ≤ j → j ≤ suc last →
+  pub lines-before : (j : ℕ) → first ≤ j → j ≤ suc last →
       lines_of (table_before scenario cells j).order ≡ lines_of (table_before scenario cells first).order
   lines-before j low high =
       let place : j - first + first ≡ j = omega arith in
@@ -233,7 +244,7 @@ module _ (scenario : Scenario) (cells : List (Option Told)) (first last : ℕ)
       ∙ ap (λ told. told_on (heard (group_of scenario k) told table)) cell
       ∙ ap told_on (heard-for (group_of scenario k) (Some (return_packet scenario cells k)) table (is-for k low high))
 
-  kept-step : (k sq : ℕ) → first ≤ k → k + scenario.lag ≤ last → sq < most_lines →
+  pub kept-step : (k sq : ℕ) → first ≤ k → k + scenario.lag ≤ last → sq < most_lines →
       kept_of (table_of scenario cells (k + scenario.lag)) sq
       ≡ (if sq / 8 == group_of scenario k then slice_get (return_packet scenario cells k).oks (sq % 8)
       else kept_of (table_before scenario cells (k + scenario.lag)) sq)
@@ -249,14 +260,9 @@ module _ (scenario : Scenario) (cells : List (Option Told)) (first last : ℕ)
       status scenario cells k sq ≡ is_line_up scenario line k
   status-said k sq line low high has =
       let lag = quiet.lag in
-      let whole = said-heard scenario cells k (quiet.hears k low high) in
-      let there : slice_get (lines_of (table_of scenario cells k).order) sq ≡ Some line =
-      ap (λ lines. slice_get lines sq) (lines-before (suc k) (omega arith) (omega arith)) ∙ has in
-      let spoke = quiet.words sq line k low (omega arith) has in
-      elim (cases_Bool (is_line_up scenario line k)) [
-        | inl up ↦ status-holds scenario cells (suc k) k sq line spoke.0 (omega arith) whole there up spoke.1 ∙ sym up
-        | inr down ↦ status-fails scenario cells (suc k) k sq line (omega arith) whole there down ∙ sym down
-      ]
+      status-up scenario cells k sq line (quiet.hears k low high)
+      (ap (λ lines. slice_get lines sq) (lines-before (suc k) (omega arith) (omega arith)) ∙ has)
+      (quiet.words sq line k low (omega arith) has)
 
   kept-first : (k sq line : ℕ) → first ≤ k → k + scenario.lag ≤ last → sq < most_lines → sq / 8 ≡ group_of scenario k →
       slice_get (lines_of (table_before scenario cells first).order) sq ≡ Some line →
@@ -296,7 +302,7 @@ module _ (scenario : Scenario) (cells : List (Option Told)) (first last : ℕ)
       ∙ slice_get-map (λ member. member.line) order sq ∙ ap (option_map (λ member. member.line)) has
 
   -- the line that an SQ has before the first step has it then too
-  lines-at : (j sq line : ℕ) → first ≤ j → j ≤ last →
+  pub lines-at : (j sq line : ℕ) → first ≤ j → j ≤ last →
       slice_get (lines_of (table_before scenario cells first).order) sq ≡ Some line →
       (member : Member) × (slice_get (table_of scenario cells j).order sq ≡ Some member) × (member.line ≡ line)
   lines-at j sq line low high lines =
@@ -326,7 +332,7 @@ module _ (scenario : Scenario) (cells : List (Option Told)) (first last : ℕ)
       let place : d + k + scenario.lag ≡ j = omega arith in
       rw place at (kept-on k sq line d start (omega arith) (omega arith) small group lines)
 
-  by-told : (j : ℕ) → first ≤ j → j ≤ last → (table : Table) × (table_of scenario cells j ≡ told_on table)
+  pub by-told : (j : ℕ) → first ≤ j → j ≤ last → (table : Table) × (table_of scenario cells j ≡ told_on table)
       × (kept_of table ≡ kept_of (table_of scenario cells j)) × (table.order ≡ (table_before scenario cells j).order)
   by-told j low high =
       let table = heard ((j - scenario.lag) % scenario.options.statuses) (cell_at scenario cells j)
@@ -392,7 +398,7 @@ module _ (scenario : Scenario) (cells : List (Option Told)) (first last : ℕ)
       (subst (λ (order : List Member). Has order sq line adding) table.3
       (told_on-adding table.0 sq line (subst (λ (t : Table). Has t.order sq line adding) table.1 there)))
 
-  added-before : (j sq line : ℕ) → first ≤ j → j ≤ last → Has (table_of scenario cells j).order sq line adding →
+  pub added-before : (j sq line : ℕ) → first ≤ j → j ≤ last → Has (table_of scenario cells j).order sq line adding →
       Has (table_before scenario cells first).order sq line adding
   added-before j sq line low high has =
       let place : suc j - first + first ≡ suc j = omega arith in

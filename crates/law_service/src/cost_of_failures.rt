@@ -16,8 +16,10 @@ ghost use Rattle.law_service.specs.cost_of_failures.Cost.{IsSparedFor, SaysOf, r
 ghost use Rattle.law_service.specs.cost_of_failures.Cost.{FailTogether, first_hit};
 ghost use Rattle.law_service.specs.cost_of_failures.Cost.{governing_table, table_at, HasSq, Spoils, IsSpoiled};
 ghost use Rattle.law_service.specs.cost_of_failures.Cost.{spoiled_rows};
-ghost use Rattle.law_service.specs.cost_of_failures.CostInNumbers.{WasUsed, WereUsed, IsHit, AreTwoRuns};
+ghost use Rattle.law_service.specs.cost_of_failures.CostInNumbers.{WasUsed, WereUsed, WereClear, IsHit};
+ghost use Rattle.law_service.specs.cost_of_failures.CostInNumbers.{AreTwoRuns};
 ghost use Rattle.law_service.specs.cost_of_failures.Settled.{IsSettled, MakesNoChange};
+ghost use Rattle.law_service.specs.cost_of_failures.Unnoticed.{without, IsUnnoticed};
 ghost use Rattle.law_service.specs.cost_of_failures.WorkedCosts.{costly_leg, dearest_leg, parted_leg, used_in_rows};
 
 /// Which rows before a horizon failures cost, if each line fails once at most, one line doesn't fail, and no
@@ -55,7 +57,7 @@ pub fn cost_law()
 /// `sink stops` just if so, while a sink that goes on has more rows whole; a failure spoils no row once the
 /// source was told of it; and a line carries payload just if it was up at the last packet that says a status of
 /// its SQ and that was taken. So a failure that no such packet sees, or that is held, takes nothing of the
-/// capacity.
+/// capacity: each table is the one of the session that has no such failures.
 pub fn exact_law()
     ensures only { (leg : Leg) (from horizon t : ℕ) → IsSound leg → FailsOnce leg from horizon →
         24 ≤ t → from ≤ t → t < horizon →
@@ -81,13 +83,18 @@ pub fn exact_law()
         ((k : ℕ) → first_hit from ≤ k → 16 * (k + leg.config.lag) + 24 < horizon → SaysOf leg sq k →
         is_line_up (scenario_by leg) line k ≡ true) → from + round_rows leg 0 ≤ t → t < horizon →
         slice_get (governing_table leg t).order sq ≡ Some (member_of line Norm) }
+    ensures tables { (leg : Leg) (from horizon j : ℕ) → IsSound leg → FailsOnce leg from horizon →
+        IsUnnoticed leg from horizon → 16 * j + 24 < horizon →
+        table_of (scenario_by leg) (session_of leg) j
+        ≡ table_of (scenario_by (without leg from horizon)) (session_of (without leg from horizon)) j }
 {}
 
 /// The rows in numbers. A row isn't whole only if the failure of a line that has an SQ spoils it, and it is
 /// before the one row at which the source is told; and with `sink stops` just if so, if each line that has an
 /// SQ and fails was in use before, with nothing else said of it. Then lines that fail together spoil the first
-/// ones of the rows that they can spoil, and so two runs of rows at most. And a line that was in use before, and is up
-/// at each packet that says a status of its SQ, is in use all the time: nobody notices its failure.
+/// ones of the rows that they can spoil, and so two runs of rows at most; and two at most it is too if none of them was
+/// in ADD or damaged shortly before, whether in use or not. And a line that was in use before, and is up at each packet
+/// that says a status of its SQ, is in use all the time: nobody notices its failure.
 pub fn closed_law()
     ensures only { (leg : Leg) (from horizon t : ℕ) → IsSound leg → FailsOnce leg from horizon →
         24 ≤ t → from ≤ t → t < horizon →
@@ -106,6 +113,9 @@ pub fn closed_law()
     ensures runs { (leg : Leg) (begins ends horizon : ℕ) → IsSound leg →
         leg.config.options.infers ≡ false → FailTogether leg begins ends horizon →
         WereUsed leg begins horizon → AreTwoRuns leg begins horizon }
+    ensures runs_of_clear { (leg : Leg) (begins ends horizon : ℕ) → IsSound leg →
+        leg.config.options.infers ≡ false → FailTogether leg begins ends horizon →
+        WereClear leg begins horizon → AreTwoRuns leg begins horizon }
     ensures used { (leg : Leg) (from horizon sq line t : ℕ) → IsSound leg →
         FailsOnce leg from horizon → slice_get (lines_of (table_at leg from).order) sq ≡ Some line →
         WasUsed leg from sq line →

@@ -1,5 +1,6 @@
 -- The rows and the lines in use, exactly.
 use Rattle.law_service.proofs.FailureCostInRowsLaws.{cost-spoiled, cost-exact, cost-told, cost-stands, cost-unnoticed}
+use Rattle.law_service.proofs.UnnoticedFailureLaws.{same-tables}
 use Rattle.law_service.proofs.cost_of_failures.exact_law.Goals as goal
 
 pub returns : goal.returns
@@ -14,4 +15,5 @@ returns c = record {
       cost-stands leg sound from horizon once sq line j k has late start group taken near within;
   unnoticed = λ leg from horizon sq line t sound once has read low high.
       cost-unnoticed leg sound from horizon once sq line t has read low high;
+  tables = λ leg from horizon j sound once unnoticed near. same-tables leg sound from horizon once unnoticed j near;
 }
