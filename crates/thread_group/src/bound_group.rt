@@ -125,19 +125,22 @@ impl<Y: Session> BoundGroup<Y> {
     }
 
     /// Lands an item, which is the one of this number in the session's script, as `GroupState::submit` does.
-    /// The journal has room for it.
+    /// The journal has room for it. What is handed in stays as it was.
     pub fn submit(&mut self, number: u32, item: ItemRef) -> Result<(), SubmitFault>
         requires { IsItemOf (leg_of Y.script) number (kind_of item) }
         ensures submits { Submits self.old.state self.new.state number (kind_of item.entry)
             (refusal_in result) }
         ensures room { is_full (refusal_in result) ≡ false }
+        ensures handed { self.new.handed ≡ self.old.handed }
     {
         self.state.submit(number, item)
     }
 
-    /// Moves return cells, and makes the next frame where it can, as `GroupState::tick` does.
+    /// Moves return cells, and makes the next frame where it can, as `GroupState::tick` does. What is handed in
+    /// stays as it was.
     pub fn tick(&mut self) -> TickAnswer
-        ensures { Ticks self.old.state self.new.state result }
+        ensures ticks { Ticks self.old.state self.new.state result }
+        ensures handed { self.new.handed ≡ self.old.handed }
     {
         self.state.tick()
     }
