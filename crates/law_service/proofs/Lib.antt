@@ -1,6 +1,7 @@
 mod ClockedWalkRoundLaws
 pub mod FailingLineArrivalAndUseLaws
 pub mod FailureCostInRowsLaws
+pub mod FewerWindowsLaws
 pub mod FrameEndAndBucketLaws
 mod FrameFateUnderMoreRowsLaws
 pub mod QuietStepAndKeptStatusLaws

@@ -83,6 +83,7 @@ pub fn exact_law()
         ((k : ℕ) → first_hit from ≤ k → 16 * (k + leg.config.lag) + 24 < horizon → SaysOf leg sq k →
         is_line_up (scenario_by leg) line k ≡ true) → from + round_rows leg 0 ≤ t → t < horizon →
         slice_get (governing_table leg t).order sq ≡ Some (member_of line Norm) }
+    ensures without { (leg : Leg) (from horizon : ℕ) → IsSound leg → IsSound (without leg from horizon) }
     ensures tables { (leg : Leg) (from horizon j : ℕ) → IsSound leg → FailsOnce leg from horizon →
         IsUnnoticed leg from horizon → 16 * j + 24 < horizon →
         table_of (scenario_by leg) (session_of leg) j
