@@ -12,7 +12,7 @@ use Rattle.law_model.specs.Common.{return_cell, IsSound}
 use Rattle.law_model.specs.declared.window_types.Window.{Window}
 use Rattle.law_model.specs.members.Damage.{carried, carried_in}
 use Rattle.law_model.specs.source.Source.{opening}
-use Rattle.law_live.proofs.SamePastTableAndCellLaws.{SameBelow, with_parts, reads-same, return-same, alike-session}
+use Rattle.law_live.proofs.SamePastTableAndCellLaws.{SameBelow, with_parts, reads-same, returned-same, alike-session}
 use Rattle.law_session.specs.Feedback.{lines_of, table_before}
 use Rattle.law_session.proofs.FreshStatusLaws.{status-ok, line-inside}
 use Rattle.law_session.proofs.HeldLineAndStatusRoundLaws.{still-word}
@@ -120,7 +120,7 @@ module _ (leg : Leg) (sound : IsSound leg) (from horizon : ℕ) (once : FailsOnc
       windows-at line
       ∙ but-clear from horizon 0 (windows_of leg line) (sound.network.windows line [] inside).apart clear
 
-  same-below : SameBelow one (with_parts one calm.windows calm.orders calm.offers) (min from horizon)
+  same-below : SameBelow one (with_parts one calm) 0 (min from horizon)
   same-below =
       let made = once.made in
       let lag = sound.network.lag.0 in
@@ -132,6 +132,8 @@ module _ (leg : Leg) (sound : IsSound leg) (from horizon : ℕ) (once : FailsOnc
             ∙ ap (λ windows. carried windows t) (sym (windows-at line));
         orders = λ j low. refl;
         offers = λ t low. refl;
+        lost = λ k low. refl;
+        tells = λ k low. refl;
       }
 
   -- ---- a packet from the first on that can be hit
@@ -169,7 +171,7 @@ module _ (leg : Leg) (sound : IsSound leg) (from horizon : ℕ) (once : FailsOnc
           | inl hit ↦
               let inside = line-inside one cells-one first-calm sq line has in
               let size = sizes in
-              let read = reads-same one calm.windows calm.orders calm.offers (min from horizon) same-below line
+              let read = reads-same one calm 0 (min from horizon) same-below line
               (first-calm - 1) (omega arith) in
               let e : suc (first-calm - 1) ≡ first-calm = omega arith in
               let still : (table_of one cells-one k).count ≡ (table_of one cells-one (first-calm - 1)).count =
@@ -237,9 +239,8 @@ module _ (leg : Leg) (sound : IsSound leg) (from horizon : ℕ) (once : FailsOnc
             let k : ℕ = j - leg.config.lag in
             let same : return_cell one cells-one k ≡ return_cell calm cells-calm k =
             elim (cases_lt (min from horizon) (16 * k + 24)) [
-              | inr early ↦ return-same one calm.windows calm.orders calm.offers (min from horizon) same-below
-                  cells-one cells-calm
-                  (alike-session one calm.windows calm.orders calm.offers (min from horizon) same-below) k early
+              | inr early ↦ returned-same one calm 0 (min from horizon) same-below cells-one cells-calm
+                  (alike-session one calm 0 (min from horizon) same-below) k (omega (arith, early))
               | inl late ↦ return-late k (omega arith) (omega arith) (λ i past. tables i (omega arith))
             ] in
             session-cell one (packets one) k (omega arith) (omega arith) ∙ same
