@@ -32,7 +32,7 @@ abbrev pub ethernet_capture : List RowFrame → List ℕ
 ethernet_capture frames = ethernet_head ++ records_octets frames
 
 -- ---- as what such a capture is read
--- the rows don't fall, from a least one on, and none is beyond 999,999; no frame has more than 65,535 octets
+-- the rows don't fall, from a least one on, and none is beyond 99,999,999; no frame has more than 65,535 octets
 unfoldable pub AreRising : ℕ → List RowFrame → Type 0
 AreRising least [] = Unit {0}
 AreRising least (own ∷ frames) = (least ≤ own.row) × (own.row < most_ticks) × (length own.frame ≤ 65535) ×

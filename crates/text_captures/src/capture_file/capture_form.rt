@@ -68,7 +68,7 @@ pub enum RecordFault {
     Snapped,
     /// It has more octets than a frame of a script may have: how many.
     Length { octets: u32 },
-    /// Its time is more than 999,999 ticks after that of the first one.
+    /// Its time is more than 99,999,999 ticks after that of the first one.
     Late,
 }
 
