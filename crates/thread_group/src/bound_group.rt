@@ -67,7 +67,7 @@ pub struct BoundGroup<Y: Session> {
 }
 
 impl<Y: Session> BoundGroup<Y> {
-    ghost use Rattle.std.specs.Prelude.{◌≡◌, nat_lt, not, false};
+    ghost use Rattle.std.specs.Prelude.{◌≡◌, nat_lt, not, true, false};
     ghost use Rattle.law_model.specs.Common.{refusal_in};
     ghost use Rattle.terminal_group.specs.Item.{kind_of};
     ghost use Rattle.thread_group.specs.FaultsAndStops.{is_full};
@@ -79,7 +79,9 @@ impl<Y: Session> BoundGroup<Y> {
     /// Binds a group to its session. Nothing is handed in.
     pub fn new(state: GroupState) -> BoundGroup<Y>
         requires { IsBound (leg_of Y.script) Y.tx Y.back state }
-        ensures { result.state ≡ state }
+        ensures state { result.state ≡ state }
+        ensures frames { handed_below result.handed true ≡ 0 }
+        ensures commands { handed_below result.handed false ≡ 0 }
     {
         BoundGroup {
             state,

@@ -1,5 +1,6 @@
 //! The places at which the pieces of accepted frames begin and end, by lengths alone.
 ghost use Rattle.std.specs.Prelude.{◌≡◌, ◌+◌, ◌^◌, ◌==◌, ◌||◌, ◌<◌, [], length, OnOk, OnErr, slice_get, IfOk, IfSome};
+ghost use Rattle.std.specs.Prelude.{vec_capacity};
 ghost use Rattle.law_model.specs.Common.{Stream};
 ghost use Rattle.fate_engine.specs.fate_law.Ruler.{new_ruler, ruler_of, ruled, with_waiting};
 ghost use Rattle.fate_engine.specs.fate_law.Marks.{is_piece_at};
@@ -35,6 +36,14 @@ pub struct Ruler {
     end: u64,
 }
 
+/// Room for so many frames, and none in it.
+fn room_for(alloc: Global, frames: u32) -> Result<Vec<Piece>, AllocError>
+    ensures none { IfOk result (λ pieces. pieces.items ≡ []) }
+    ensures room { IfOk result (λ pieces. vec_capacity pieces ≡ frames) }
+{
+    Vec::with_capacity(alloc, frames as usize)
+}
+
 impl Model for Ruler {
     ghost use Rattle.fate_engine.specs.fate_law.Ruler.{Ruler};
     ghost use Rattle.fate_engine.specs.fate_core.FrameSides.{ruler_in, IsRuler};
@@ -52,7 +61,7 @@ impl Ruler {
         ensures { IfOk result (λ ruler. ruler ≡ new_ruler) }
     {
         Ok(Ruler {
-            frames: Vec::with_capacity(alloc, frames as usize)?,
+            frames: room_for(alloc, frames)?,
             begun: 0,
             end: 2 * IDLE,
         })

@@ -133,6 +133,15 @@ fn hand_in_ahead<Y: Session>(group: &mut BoundGroup<Y>, who: Who, items: &ItemLi
     Some(below)
 }
 
+/// Sleeps until the flag is stored, where all is handed in: nothing is left to bring.
+fn rest<'s, R: Wait>(rt: &R, stop: Heed<'s>, below: u32) -> OnceToken<'s, ()>
+    requires { below ≡ 4294967295 }
+    ensures { result.of ≡ heeded stop.entry }
+{
+    let _ = below;
+    stop.wait(rt)
+}
+
 /// Hands in the items of a script that this one brings, some ahead whenever it is rung for, and comes back once the
 /// flag is stored.
 pub(super) fn hand_in_all<'s, Y: Session, R: Wait, G: Gate>(
@@ -156,7 +165,7 @@ pub(super) fn hand_in_all<'s, Y: Session, R: Wait, G: Gate>(
             gate.moved(who);
             source.ring();
             if below == u32::MAX {
-                return stop.wait(rt);
+                return rest(rt, stop, below);
             }
         }
         stop.bell().wait(rt);

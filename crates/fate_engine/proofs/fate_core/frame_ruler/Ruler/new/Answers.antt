@@ -16,4 +16,4 @@ none frames is = record {
 }
 
 pub invariant_of-result : goal.invariant_of-result
-invariant_of-result c = none c.in_ok-with_capacity.field-0.items c.in_ok-with_capacity.ensures.items
+invariant_of-result c = none c.in_ok-room_for.field-0.items c.in_ok-room_for.ensures.none
