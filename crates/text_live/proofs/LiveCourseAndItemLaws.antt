@@ -1,15 +1,15 @@
 -- What lines without a fault say all along: courses, failures and items that fit the configuration.
 use Rattle.std.proofs.Common.{◌≡◌, ℕ, zero, suc, ◌+◌, ◌-◌, ◌<◌, ◌≤◌, max, nat_lt, Bool, true, false, List, [], ◌∷◌}
 use Rattle.std.proofs.Common.{◌++◌, length, map, ap, ◌∙◌, arith, refl, slice_index_or, if◌then◌else◌, inl, inr, Option}
-use Rattle.std.proofs.Common.{None, Some, sym, subst, All, ◌==◌, nat_le, not, drop, slice_set, Ok, option_map, is_some}
-use Rattle.std.proofs.Common.{is_none, eqb-true, ltb-false, leb-false}
+use Rattle.std.proofs.Common.{None, Some, sym, subst, All, ◌==◌, nat_le, drop, slice_set, Ok, option_map, is_some}
+use Rattle.std.proofs.Common.{is_none, ltb-false, leb-false}
 use Rattle.std.proofs.lemmas.List.{length-append, append-nil, length-set, length-map, get_or-map}
 use Rattle.std.proofs.lemmas.List.Elements.{All-push, All-set, All-get_or, All-map}
 use Rattle.law_model.specs.Common.{AreWindows, slip_after, slip_of, HasFailures, Due, frame_due, command_due, due_of}
 use Rattle.law_model.specs.Common.{dues_of, frame_dues, command_dues, IsItem, IsKind, AreItems, IsNetwork}
 use Rattle.law_model.specs.declared.window_types.Window.{Window}
 use Rattle.text_scripts.specs.script_read.Statements.{last_end, words_fault, words_said, after}
-use Rattle.std.proofs.lemmas.Bool.{cases_lt, lt-ltb, le-ltb, not-false}
+use Rattle.std.proofs.lemmas.Bool.{cases_lt, lt-ltb, le-ltb}
 use Rattle.law_live.specs.LiveSayings.{LineCourse, closed, cut_at, uncut, windows_by, Live, course_at, cuts, lands}
 use Rattle.law_live.specs.LiveSayings.{live_after, mends, opened, passes, with_course}
 use Rattle.std.specs.List.Sorted.{IsNonDecreasing}
@@ -20,7 +20,7 @@ use Rattle.text_scripts.proofs.ScriptDraftGrowthLaws.{commands-one, IsDraft-firs
 use Rattle.std.specs.Prelude.{IsSome}
 use Rattle.std.proofs.lemmas.Bool.Decides.{nat_tests}
 use Rattle.std.specs.Option.{option_or}
-use Rattle.text_lines.specs.WordsOfLine.{words, word_at, is_skipped, number_at}
+use Rattle.text_lines.specs.WordsOfLine.{words, word_at, is_skipped, number_of}
 use Rattle.text_lines.specs.Fields.{Field, within, digits, where_true, field_fault}
 use Rattle.text_lines.specs.Language.{said_from, unless_fault}
 use Rattle.text_lines.proofs.TextLineAndWordLaws.{or_none, where_none, map_none, number_ok, digits_ok}
@@ -36,7 +36,8 @@ use Rattle.text_live.specs.declared.live_keyword.EarlierPart.{EarlierPart}
 use Rattle.law_live.specs.Common.{CanCut, CanSay, IsOfLine, Saying}
 use Rattle.law_live.proofs.WellSaidLegAndWindowLaws.{ends-last}
 use Rattle.text_live.specs.LiveLines.{Said, LineWrong, of_script, of_limits, of_live, live_or, now_live, opening_fault}
-use Rattle.text_live.specs.LiveLines.{count_by, ended_fault, cut_fault, mend_fault, own_fault, one_fault, rest_fault}
+use Rattle.text_live.specs.LiveLines.{count_by, ended_fault, cut_fault, mend_fault, own_fault, word_fault, value_fault}
+use Rattle.text_live.specs.LiveLines.{count_fault, rest_fault, live_said}
 use Rattle.text_live.specs.LiveLines.{earlier_fault, fault_by, line_fault, live_told, told_by, said_with, line_after}
 use Rattle.text_live.specs.LiveLines.{first_of, nothing_said, live_lines}
 use Rattle.law_model.specs.declared.script_types.ItemKind.TheVariants as kind
@@ -312,7 +313,7 @@ is_bare d is = record {
   events = is.events;
 }
 
-network_of : (d : Draft) → IsDraft d → missing_line d ≡ None → config_fault d.config ≡ None → IsNetwork d.config
+pub network_of : (d : Draft) → IsDraft d → missing_line d ≡ None → config_fault d.config ≡ None → IsNetwork d.config
 unfolding bare
 network_of d is whole none =
     (IsValid-draft (bare d) (is_bare d is) (whole_config d whole) none).sound.network
@@ -321,7 +322,7 @@ uncut_slips : (lists : List (List Window)) → map course_slip (map uncut lists)
 uncut_slips [] = refl
 uncut_slips (ws ∷ lists) = ap (λ (ns : List ℕ). slip_of ws ∷ ns) (uncut_slips lists)
 
-has_opened : (k : ℕ) (c : Config) → IsNetwork c → HasLive k c (opened c)
+pub has_opened : (k : ℕ) (c : Config) → IsNetwork c → HasLive k c (opened c)
 has_opened k c network = record {
   network = network;
   passed = omega arith;
@@ -341,20 +342,9 @@ opening k None d is has none =
     has_opened k d.config (network_of d is (map_none of_script (missing_line d) parts.0)
     (map_none of_limits (config_fault d.config) parts.1))
 
--- ---- what the words of a live line say that has no fault
-pub record HasWord (k : LiveKeyword) (f : Field) (ws : List (List ℕ)) : Type 0 where
-  pub count : length ws ≡ 1
-  pub each : field_fault f 2 0 (word_at 0 ws) ≡ None
-
-pub one_word : (k : LiveKeyword) (f : Field) (ws : List (List ℕ)) → one_fault k f ws ≡ None → HasWord k f ws
-one_word k f ws none =
-    let parts = or_none (where_true (not (length ws == 1)) (wrong.Count k (length ws)))
-    (option_map wrong.Field (field_fault f 2 0 (word_at 0 ws))) none in
-    record {
-      count = eqb-true (length ws) 1
-          (not-false (length ws == 1) (where_none (not (length ws == 1)) (wrong.Count k (length ws)) parts.0));
-      each = map_none wrong.Field (field_fault f 2 0 (word_at 0 ws)) parts.1;
-    }
+-- ---- what the word of a live line says that has no fault
+pub word_fine : (f : Field) (at : ℕ) (w : List ℕ) → word_fault f at w ≡ None → field_fault f at 0 w ≡ None
+word_fine f at w none = map_none wrong.Field (field_fault f at 0 w) none
 
 pub goes_on : (ticks passed : ℕ) → passed ≤ ticks → ended_fault ticks passed ≡ None → passed < ticks
 goes_on ticks passed most none =
@@ -414,35 +404,38 @@ can_mend k c live m has low none =
     )
 
 -- ---- what a live line says can be said
+pub can_value : (k : ℕ) (c : Config) (live : Live) (word : LiveKeyword) (at : ℕ) (w : List ℕ) → HasLive k c live →
+    value_fault c live word at w ≡ None → CanSay c.ticks live (live_said word w)
+can_value k c live word.Frame at w has none =
+    let parts = or_none (word_fault (digits 1 longest_offer) at w) (ended_fault c.ticks live.passed) none in
+    let octets = digits_ok at 1 longest_offer w (word_fine (digits 1 longest_offer) at w parts.0) in
+    (goes_on c.ticks live.passed has.passed parts.1, (octets.size, octets.each))
+can_value k c live word.Cut at w has none =
+    let parts = or_none (word_fault (within 0 (c.lines - 1)) at w)
+    (cut_fault c.ticks live.passed (number_of w) (course_at live (number_of w))) none in
+    let low = number_ok at 0 (c.lines - 1) w (word_fine (within 0 (c.lines - 1)) at w parts.0) in
+    can_cut k c live (number_of w) has (line_within c live (number_of w) k has low.1) parts.1
+can_value k c live word.Mend at w has none =
+    let parts = or_none (word_fault (within 0 (c.lines - 1)) at w)
+    (mend_fault c.ticks live.passed (number_of w) (course_at live (number_of w))) none in
+    let low = number_ok at 0 (c.lines - 1) w (word_fine (within 0 (c.lines - 1)) at w parts.0) in
+    can_mend k c live (number_of w) has (line_within c live (number_of w) k has low.1) parts.1
+can_value k c live word.Pass at w has none =
+    let parts = or_none (word_fault (within 1 (c.ticks - live.passed)) at w)
+    (own_fault c.ticks live word.Pass (number_of w)) none in
+    let is = number_ok at 1 (c.ticks - live.passed) w (word_fine (within 1 (c.ticks - live.passed)) at w parts.0) in
+    record { some = is.0; left = omega (arith, is.1, has.passed) }
+can_value k c live word at w has none =
+    let parts = or_none (word_fault (within 0 255) at w) (ended_fault c.ticks live.passed) none in (
+      goes_on c.ticks live.passed has.passed parts.1,
+      (number_ok at 0 255 w (word_fine (within 0 255) at w parts.0)).1,
+    )
+
 pub can_say : (k : ℕ) (c : Config) (live : Live) (w : LiveKeyword) (ws : List (List ℕ)) → HasLive k c live →
     rest_fault c live w ws ≡ None → CanSay c.ticks live (live_told w ws)
-can_say k c live word.Frame ws has none =
-    let parts = or_none (one_fault word.Frame (digits 1 longest_offer) ws) (ended_fault c.ticks live.passed) none in
-    let octets = digits_ok 2 1 longest_offer (word_at 0 ws) (one_word word.Frame (digits 1 longest_offer) ws parts.0).each in
-    (goes_on c.ticks live.passed has.passed parts.1, (octets.size, octets.each))
-can_say k c live word.Cut ws has none =
-    let parts = or_none (one_fault word.Cut (within 0 (c.lines - 1)) ws)
-    (cut_fault c.ticks live.passed (number_at 0 ws) (course_at live (number_at 0 ws))) none in
-    let low = number_ok 2 0 (c.lines - 1) (word_at 0 ws)
-    (one_word word.Cut (within 0 (c.lines - 1)) ws parts.0).each in
-    can_cut k c live (number_at 0 ws) has (line_within c live (number_at 0 ws) k has low.1) parts.1
-can_say k c live word.Mend ws has none =
-    let parts = or_none (one_fault word.Mend (within 0 (c.lines - 1)) ws)
-    (mend_fault c.ticks live.passed (number_at 0 ws) (course_at live (number_at 0 ws))) none in
-    let low = number_ok 2 0 (c.lines - 1) (word_at 0 ws)
-    (one_word word.Mend (within 0 (c.lines - 1)) ws parts.0).each in
-    can_mend k c live (number_at 0 ws) has (line_within c live (number_at 0 ws) k has low.1) parts.1
-can_say k c live word.Pass ws has none =
-    let parts = or_none (one_fault word.Pass (within 1 (c.ticks - live.passed)) ws)
-    (own_fault c.ticks live word.Pass (number_at 0 ws)) none in
-    let is = number_ok 2 1 (c.ticks - live.passed) (word_at 0 ws)
-    (one_word word.Pass (within 1 (c.ticks - live.passed)) ws parts.0).each in
-    record { some = is.0; left = omega (arith, is.1, has.passed) }
 can_say k c live w ws has none =
-    let parts = or_none (one_fault w (within 0 255) ws) (ended_fault c.ticks live.passed) none in (
-      goes_on c.ticks live.passed has.passed parts.1,
-      (number_ok 2 0 255 (word_at 0 ws) (one_word w (within 0 255) ws parts.0).each).1,
-    )
+    can_value k c live w 2 (word_at 0 ws) has
+    (or_none (count_fault w ws) (value_fault c live w 2 (word_at 0 ws)) none).1
 
 -- ---- what is said with it
 same_slips : (courses : List LineCourse) (m : ℕ) (course : LineCourse) →
@@ -474,7 +467,7 @@ last-over passed (w ∷ ws) over =
     let inside : at < length (w ∷ ws) = omega arith in
     omega (arith, over at w inside, get_or-map (λ (window : Window). window.end) (w ∷ ws) at w 0 inside)
 
-has_after : (k : ℕ) (c : Config) (live : Live) (saying : Saying) → HasLive k c live → CanSay c.ticks live saying →
+pub has_after : (k : ℕ) (c : Config) (live : Live) (saying : Saying) → HasLive k c live → CanSay c.ticks live saying →
     HasLive (k + 1) c (live_after live saying)
 has_after k c live (lands kind) has can = record {
   network = has.network;
@@ -507,7 +500,7 @@ has_after k c live (passes n) has can = record {
 }
 
 -- ---- any line
-more_live : (k : ℕ) (c : Config) (live : Option Live) → HasLiveIf k c live → HasLiveIf (k + 1) c live
+pub more_live : (k : ℕ) (c : Config) (live : Option Live) → HasLiveIf k c live → HasLiveIf (k + 1) c live
 more_live k c None has = tt
 more_live k c (Some live) has = record {
   network = has.network;

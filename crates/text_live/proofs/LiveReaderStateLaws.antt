@@ -2,11 +2,11 @@
 use Rattle.std.proofs.Common.{◌≡◌, ◌∙◌, ℕ, ◌+◌, ◌-◌, ◌<◌, List, [], ◌∷◌, ◌++◌, length, map, ap, ap₂, sym, subst, arith}
 use Rattle.std.proofs.Common.{refl, inl, inr, slice_index_or, slice_set, Option, None, Some, All, Bool, true, false}
 use Rattle.std.proofs.Common.{option_map, is_none, if◌then◌else◌, Result, Ok, Err, IfErr, ◌≢◌, ◌/◌, ◌≤◌, nat_le, ◌&&◌}
-use Rattle.std.proofs.Common.{not, take, get_or, slice_index}
+use Rattle.std.proofs.Common.{◌==◌, not, take, get_or, slice_index}
 use Rattle.std.specs.Option.{option_or}
 use Rattle.std.proofs.lemmas.Bool.{cases_lt, lt-ltb, le-ltb}
 use Rattle.std.proofs.lemmas.List.{length-append, length-set, length-map, map-set, get_or-map, take_all, take_more}
-use Rattle.text_lines.specs.WordsOfLine.{number_at, word_at, is_skipped}
+use Rattle.text_lines.specs.WordsOfLine.{number_of, word_at, is_skipped}
 use Rattle.text_lines.specs.Fields.{within, where_true, octets_fault}
 use Rattle.law_model.specs.declared.window_types.Window.{Window}
 use Rattle.law_model.specs.declared.script_types.Config.{Config}
@@ -15,10 +15,11 @@ use Rattle.text_live.specs.declared.live_fault.LiveLineFault.{LiveLineFault}
 use Rattle.text_live.specs.declared.read_live_line.LineState.{LineState}
 use Rattle.text_live.specs.declared.read_live_line.LiveState.{LiveState}
 use Rattle.law_live.specs.LiveSayings.{LineCourse, Live, closed, course_at, cut_at, cuts, live_after, mends, uncut}
-use Rattle.law_live.specs.LiveSayings.{windows_by, with_course}
-use Rattle.text_live.specs.LiveLines.{happens, one_fault, own_fault, cut_fault, cut_fault_by, mend_fault}
+use Rattle.law_live.specs.LiveSayings.{Saying, windows_by, with_course}
+use Rattle.text_live.specs.LiveLines.{happens, word_fault, own_fault, cut_fault, cut_fault_by, mend_fault}
 use Rattle.text_live.specs.LiveLines.{mend_fault_by, Said, LineWrong, of_live, Told, nothing, now_live, opening_fault}
-use Rattle.text_live.specs.LiveLines.{rest_fault, fault_by, line_fault, told_by, told, first_of, live_told, with_live}
+use Rattle.text_live.specs.LiveLines.{rest_fault, value_fault, fault_by, line_fault, told_by, told, first_of}
+use Rattle.text_live.specs.LiveLines.{live_said, live_told, with_live}
 use Rattle.text_live.specs.LiveLines.{said_with, line_after}
 use Rattle.text_live.specs.LiveReaderStands.{Keeps, IsKept, HasFew, Reads, mended_by, mended_state, state_of, IsToldAt}
 use Rattle.text_live.specs.LiveReaderStands.{IsAt, ReadsLine, Stops, Says, failure as reader_failure}
@@ -42,6 +43,7 @@ use Rattle.text_live.specs.declared.live_keyword.LiveKeyword.TheVariants as word
 use Rattle.text_live.specs.declared.live_line.LiveLine.TheVariants as line
 use Rattle.text_live.specs.declared.live_keyword.FirstWord.TheVariants as first
 use Rattle.text_live.specs.declared.live_fault.LiveFault.TheVariants as fault
+use Rattle.text_live.specs.declared.live_fault.LiveLineFault.TheVariants.{Count}
 
 -- ---- What is kept of the lines of the group stands for what is said of them.
 -- ---- one line
@@ -88,10 +90,10 @@ keeps_line old now c live m new course keeps ticks passed lines is = record {
 }
 
 -- the word of a line of the group
-word_fine : (old : LiveState) (c : Config) (live : Live) (k : LiveKeyword) (ws : List (List ℕ)) → Keeps old c live →
-    one_fault k (within 0 (length old.lines.items - 1)) ws ≡ None → one_fault k (within 0 (c.lines - 1)) ws ≡ None
-word_fine old c live k ws keeps fine =
-    sym (ap (λ (n : ℕ). one_fault k (within 0 (n - 1)) ws) (lines_count old c live keeps)) ∙ fine
+line_word_fine : (old : LiveState) (c : Config) (live : Live) (at : ℕ) (w : List ℕ) → Keeps old c live →
+    word_fault (within 0 (length old.lines.items - 1)) at w ≡ None → word_fault (within 0 (c.lines - 1)) at w ≡ None
+line_word_fine old c live at w keeps fine =
+    sym (ap (λ (n : ℕ). word_fault (within 0 (n - 1)) at w) (lines_count old c live keeps)) ∙ fine
 
 both_none : (one other : Option LiveLineFault) → one ≡ None → other ≡ None → option_or one other ≡ None
 both_none one other first second = ap₂ option_or first second
@@ -111,17 +113,17 @@ cut_fine old c live m l keeps is none =
     ∙ ap (λ (p : ℕ). line_cut_fault c.ticks p m l) keeps.passed
     ∙ ap (λ (l : LineState). line_cut_fault c.ticks live.passed m l) is) ∙ none
 
-pub reads_cut : (old now : LiveState) (octets : List ℕ) (c : Config) (live : Live) (ws : List (List ℕ)) (m : ℕ) (l : LineState) →
-    Keeps old c live → m ≡ number_at 0 ws → one_fault word.Cut (within 0 (length old.lines.items - 1)) ws ≡ None →
+pub reads_cut : (old now : LiveState) (octets : List ℕ) (c : Config) (live : Live) (at : ℕ) (w : List ℕ) (m : ℕ) (l : LineState) →
+    Keeps old c live → m ≡ number_of w → word_fault (within 0 (length old.lines.items - 1)) at w ≡ None →
     m < length old.lines.items → l ≡ slice_index_or old.lines.items m l → line_cut_fault old.ticks old.passed m l ≡ None →
     now.ticks ≡ old.ticks → now.passed ≡ old.passed →
     now.lines.items ≡ slice_set old.lines.items m (cut_new l old.passed) →
-    Reads now octets c live word.Cut ws (line.Cut m)
-reads_cut old now octets c live ws m l keeps number fine low at none ticks passed lines =
-    let is : l ≡ state_of (course_at live m) = line_kept old c live m l keeps low at in
+    Reads now octets c live word.Cut at w (line.Cut m)
+reads_cut old now octets c live at w m l keeps number fine low here none ticks passed lines =
+    let is : l ≡ state_of (course_at live m) = line_kept old c live m l keeps low here in
     record {
-      fine = both_none (one_fault word.Cut (within 0 (c.lines - 1)) ws)
-          (own_fault c.ticks live word.Cut (number_at 0 ws)) (word_fine old c live word.Cut ws keeps fine)
+      fine = both_none (word_fault (within 0 (c.lines - 1)) at w)
+          (own_fault c.ticks live word.Cut (number_of w)) (line_word_fine old c live at w keeps fine)
           (subst (λ (n : ℕ). own_fault c.ticks live word.Cut n ≡ None) number (cut_fine old c live m l keeps is none));
       told = ap (λ n. happens (cuts n)) number;
       keeps = subst (λ (n : ℕ). Keeps now c (live_after live (cuts n))) number
@@ -141,17 +143,17 @@ mend_fine old c live m l keeps is none =
     ∙ ap (λ (p : ℕ). line_mend_fault c.ticks p m l) keeps.passed
     ∙ ap (λ (l : LineState). line_mend_fault c.ticks live.passed m l) is) ∙ none
 
-pub reads_mend : (old now : LiveState) (octets : List ℕ) (c : Config) (live : Live) (ws : List (List ℕ)) (m : ℕ) (l : LineState) →
-    Keeps old c live → m ≡ number_at 0 ws → one_fault word.Mend (within 0 (length old.lines.items - 1)) ws ≡ None →
+pub reads_mend : (old now : LiveState) (octets : List ℕ) (c : Config) (live : Live) (at : ℕ) (w : List ℕ) (m : ℕ) (l : LineState) →
+    Keeps old c live → m ≡ number_of w → word_fault (within 0 (length old.lines.items - 1)) at w ≡ None →
     m < length old.lines.items → l ≡ slice_index_or old.lines.items m l → line_mend_fault old.ticks old.passed m l ≡ None →
     now.ticks ≡ old.ticks → now.passed ≡ old.passed →
     now.lines.items ≡ slice_set old.lines.items m (mended_state old.passed l) →
-    Reads now octets c live word.Mend ws (line.Mend m)
-reads_mend old now octets c live ws m l keeps number fine low at none ticks passed lines =
-    let is : l ≡ state_of (course_at live m) = line_kept old c live m l keeps low at in
+    Reads now octets c live word.Mend at w (line.Mend m)
+reads_mend old now octets c live at w m l keeps number fine low here none ticks passed lines =
+    let is : l ≡ state_of (course_at live m) = line_kept old c live m l keeps low here in
     record {
-      fine = both_none (one_fault word.Mend (within 0 (c.lines - 1)) ws)
-          (own_fault c.ticks live word.Mend (number_at 0 ws)) (word_fine old c live word.Mend ws keeps fine)
+      fine = both_none (word_fault (within 0 (c.lines - 1)) at w)
+          (own_fault c.ticks live word.Mend (number_of w)) (line_word_fine old c live at w keeps fine)
           (subst (λ (n : ℕ). own_fault c.ticks live word.Mend n ≡ None) number
           (mend_fine old c live m l keeps is none));
       told = ap (λ n. happens (mends n)) number;
@@ -240,6 +242,22 @@ reads_live now n s ws rest k said is begun none says at hands = record {
   opens = λ live begun. hands;
 }
 
+-- the line has one word
+pub one_fine : (c : Config) (live : Live) (k : LiveKeyword) (ws : List (List ℕ)) (w : List ℕ) → ws ≡ w ∷ [] →
+    value_fault c live k 2 w ≡ None → rest_fault c live k ws ≡ None
+one_fine c live k ws w one none = ap (rest_fault c live k) one ∙ none
+
+pub one_stops : (c : Config) (live : Live) (k : LiveKeyword) (ws : List (List ℕ)) (w : List ℕ) (f : LiveLineFault) →
+    ws ≡ w ∷ [] → value_fault c live k 2 w ≡ Some f → rest_fault c live k ws ≡ Some f
+one_stops c live k ws w f one found = ap (rest_fault c live k) one ∙ found
+
+pub count_stops : (c : Config) (live : Live) (k : LiveKeyword) (ws : List (List ℕ)) → length ws ≢ 1 →
+    rest_fault c live k ws ≡ Some (Count k (length ws))
+count_stops c live k ws other =
+    let one : (length ws == 1) ≡ false = grind (arith, nat_tests, other) in
+    ap (λ (same : Bool). option_or (where_true (not same) (Count k (length ws)))
+    (value_fault c live k 2 (word_at 0 ws))) one
+
 -- ---- where the reader stands
 abbrev pub Begins : LiveState → Said → Type 0
 Begins state s = (live : Live) × (s.live ≡ Some live) × Keeps state s.settings.config live
@@ -270,6 +288,21 @@ reads_begun now n s rest k goes number begun keeps = record {
   says = says_begun now.settings now.state (with_live s (live_told k rest)) begun
       (live_after (now_live s) (live_told k rest), refl, keeps);
 }
+
+-- a live line of one word
+pub reads_one : (now : LiveReader) (n : ℕ) (s : Said) (ws rest : List (List ℕ)) (k : LiveKeyword) (w : List ℕ)
+    (said : LiveLine) → IsLiveLine ws k rest → opening_fault s.live s.settings ≡ None → rest ≡ w ∷ [] →
+    value_fault s.settings.config (now_live s) k 2 w ≡ None → told_line (frame_of now) said ≡ happens (live_said k w) →
+    reader_failure now ≡ None → line_at now ≡ n + 1 → is_none now.settings ≡ true →
+    Keeps now.state s.settings.config (live_after (now_live s) (live_said k w)) → HandsOut now s →
+    ReadsLine now n s ws said
+reads_one now n s ws rest k w said is whole one none told goes number begun keeps hands =
+    let same : live_said k w ≡ live_told k rest = sym (ap (live_told k) one) in
+    reads_live now n s ws rest k said is whole (one_fine s.settings.config (now_live s) k rest w one none)
+    (told ∙ ap (λ (saying : Saying). happens saying) same)
+    (reads_begun now (n + 1) s rest k goes number begun
+    (subst (λ (saying : Saying). Keeps now.state s.settings.config (live_after (now_live s) saying)) same keeps))
+    hands
 
 -- what is kept is what is said by now
 pub kept_by : (state : LiveState) (s : Said) → Begins state (opened_said s) → Keeps state s.settings.config (now_live s)
@@ -306,14 +339,15 @@ pub digits_all : (text : List ℕ) (i : ℕ) → length text ≤ i → AllPass i
     AllPass is_hex_digit text
 digits_all text i most are = subst (AllPass is_hex_digit) (take_all i text most) are
 
-over : (n : ℕ) → 65536 ≤ n → where_true (not (nat_le 1 n && nat_le n longest_offer)) (Size 2 1 longest_offer) ≡ Some (Size 2 1 longest_offer)
-over n most =
+over : (at n : ℕ) → 65536 ≤ n →
+    where_true (not (nat_le 1 n && nat_le n longest_offer)) (Size at 1 longest_offer) ≡ Some (Size at 1 longest_offer)
+over at n most =
     let low : nat_le 1 n ≡ true = grind (arith, nat_tests, most) in
     let high : nat_le n longest_offer ≡ false = grind (arith, nat_tests, most) in
     rw (low, high) refl
 
-pub long_size : (digits bytes : List ℕ) → 65536 ≤ length digits / 2 → decode_of digits ≡ Ok bytes →
-    octets_fault 2 1 longest_offer (decode_of digits) ≡ Some (Size 2 1 longest_offer)
-long_size digits bytes most ok =
+pub long_size : (at : ℕ) (digits bytes : List ℕ) → 65536 ≤ length digits / 2 → decode_of digits ≡ Ok bytes →
+    octets_fault at 1 longest_offer (decode_of digits) ≡ Some (Size at 1 longest_offer)
+long_size at digits bytes most ok =
     let size = (decode_of-ok digits bytes ok).2 in
-    ap (octets_fault 2 1 longest_offer) ok ∙ over (length bytes) (omega (arith, most, size))
+    ap (octets_fault at 1 longest_offer) ok ∙ over at (length bytes) (omega (arith, most, size))

@@ -313,7 +313,7 @@ greatest_same : (k : ℕ) (c : Config) (live : Live) → HasLive k c live →
     greatest_slip (config_by c live).windows ≡ greatest_slip c.windows
 greatest_same k c live has = ap greatest (same_slips live.passed live.courses ∙ has.slips)
 
-network_by : (k : ℕ) (c : Config) (live : Live) → HasLive k c live → IsNetwork (config_by c live)
+pub network_by : (k : ℕ) (c : Config) (live : Live) → HasLive k c live → IsNetwork (config_by c live)
 network_by k c live has =
     let same = greatest_same k c live has in
     record {

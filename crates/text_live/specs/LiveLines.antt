@@ -5,7 +5,7 @@ use Rattle.std.specs.Prelude.{ℕ, ◌+◌, ◌-◌, ◌==◌, nat_le, nat_lt, n
 use Rattle.std.specs.Prelude.{Option, Some, None, option_map, is_some, is_none, codes, bytes_eq}
 use Rattle.std.specs.Prelude.{if◌then◌else◌}
 use Rattle.std.specs.Option.{option_or}
-use Rattle.text_lines.specs.WordsOfLine.{word_at, is_skipped, number_at, octets_of}
+use Rattle.text_lines.specs.WordsOfLine.{word_at, is_skipped, number_of, octets_of}
 use Rattle.text_lines.specs.Fields.{Field, within, digits, where_true, field_fault}
 use Rattle.text_lines.specs.Language.{Language}
 use Rattle.law_model.specs.declared.script_types.Config.{Config}
@@ -145,16 +145,21 @@ own_fault ticks live word.Mend n = mend_fault ticks live.passed n (course_at liv
 own_fault ticks live word.Pass n = None
 
 -- ---- the first fault of a line
--- of words that have to be one of this kind
-abbrev pub one_fault : LiveKeyword → Field → List (List ℕ) → Option LiveLineFault
-one_fault k f ws =
-    option_or (where_true (not (length ws == 1)) (wrong.Count k (length ws)))
-    (option_map wrong.Field (field_fault f 2 0 (word_at 0 ws)))
+-- of a word, which has this place in its line and has to be of this kind
+abbrev pub word_fault : Field → ℕ → List ℕ → Option LiveLineFault
+word_fault f at w = option_map wrong.Field (field_fault f at 0 w)
 
--- of the words behind its first one
+-- of the word at this place that says what happens
+abbrev pub value_fault : Config → Live → LiveKeyword → ℕ → List ℕ → Option LiveLineFault
+value_fault c live k at w = option_or (word_fault (field c live.passed k) at w) (own_fault c.ticks live k (number_of w))
+
+-- of the number of the words behind its first one
+abbrev pub count_fault : LiveKeyword → List (List ℕ) → Option LiveLineFault
+count_fault k ws = where_true (not (length ws == 1)) (wrong.Count k (length ws))
+
+-- of those words
 abbrev pub rest_fault : Config → Live → LiveKeyword → List (List ℕ) → Option LiveLineFault
-rest_fault c live k ws =
-    option_or (one_fault k (field c live.passed k) ws) (own_fault c.ticks live k (number_at 0 ws))
+rest_fault c live k ws = option_or (count_fault k ws) (value_fault c live k 2 (word_at 0 ws))
 
 -- of a line that scripts have: none stands behind a live one
 abbrev pub earlier_fault : Option Live → Draft → EarlierPart → List (List ℕ) → Option LineWrong
@@ -179,13 +184,17 @@ pub data Told : Type 0 where
   setting : Told
   happens : Saying → Told
 
+-- by the word that says what happens
+abbrev pub live_said : LiveKeyword → List ℕ → Saying
+live_said word.Frame w = lands (item_kind.Frame (octets_of w))
+live_said word.Add w = lands (item_kind.Add (number_of w))
+live_said word.Remove w = lands (item_kind.Remove (number_of w))
+live_said word.Cut w = cuts (number_of w)
+live_said word.Mend w = mends (number_of w)
+live_said word.Pass w = passes (number_of w)
+
 abbrev pub live_told : LiveKeyword → List (List ℕ) → Saying
-live_told word.Frame ws = lands (item_kind.Frame (octets_of (word_at 0 ws)))
-live_told word.Add ws = lands (item_kind.Add (number_at 0 ws))
-live_told word.Remove ws = lands (item_kind.Remove (number_at 0 ws))
-live_told word.Cut ws = cuts (number_at 0 ws)
-live_told word.Mend ws = mends (number_at 0 ws)
-live_told word.Pass ws = passes (number_at 0 ws)
+live_told k ws = live_said k (word_at 0 ws)
 
 abbrev pub told_by : List (List ℕ) → FirstWord → Told
 told_by ws (first.Earlier p) = setting

@@ -14,7 +14,6 @@ use Rattle.text_scripts.specs.script_read.ScriptInPieces.{IsReader, next_number,
 use Rattle.text_live.specs.declared.live_keyword.EarlierPart.{EarlierPart}
 use Rattle.text_live.specs.declared.live_keyword.FirstWord.TheVariants as first
 use Rattle.text_live.specs.declared.live_keyword.LiveKeyword.{LiveKeyword}
-use Rattle.text_live.specs.declared.live_keyword.LiveKeyword.TheVariants as word
 use Rattle.text_live.specs.declared.live_fault.LiveLineFault.{LiveLineFault}
 use Rattle.text_live.specs.declared.live_fault.LiveFault.{LiveFault}
 use Rattle.text_live.specs.declared.live_fault.LiveFault.TheVariants as fault
@@ -25,8 +24,8 @@ use Rattle.text_live.specs.declared.read_live_line.LiveState.{LiveState}
 use Rattle.text_live.specs.declared.live_reader.LiveReader.{LiveReader}
 use Rattle.law_live.specs.LiveSayings.{LineCourse, Live, cuts, lands, live_after, mends, passes}
 use Rattle.text_live.specs.LiveLines.{happens, Said, LineWrong, of_script, of_limits, of_live, Told, nothing, setting}
-use Rattle.text_live.specs.LiveLines.{count_by, one_fault, ended_fault, rest_fault}
-use Rattle.text_live.specs.LiveLines.{live_told, told, now_live, line_fault, line_after, first_of}
+use Rattle.text_live.specs.LiveLines.{count_by, word_fault, ended_fault, value_fault}
+use Rattle.text_live.specs.LiveLines.{live_said, told, now_live, line_fault, line_after, first_of}
 
 -- ---- faults
 -- the fault of line n
@@ -74,12 +73,12 @@ pub record Keeps (state : LiveState) (c : Config) (live : Live) : Type 0 where
 abbrev pub HasFew : LineState → Type 0
 HasFew line = count_by line.failures line.cut ≤ most_windows
 
--- the fault of the words of a command, and of a frame
-abbrev pub command_fault : ℕ → ℕ → LiveKeyword → List (List ℕ) → Option LiveLineFault
-command_fault ticks passed k ws = option_or (one_fault k (within 0 255) ws) (ended_fault ticks passed)
+-- the fault of the word of a command, and of that of a frame, which have this place
+abbrev pub command_fault : ℕ → ℕ → ℕ → List ℕ → Option LiveLineFault
+command_fault ticks passed at w = option_or (word_fault (within 0 255) at w) (ended_fault ticks passed)
 
-abbrev pub frame_fault : ℕ → ℕ → List (List ℕ) → Option LiveLineFault
-frame_fault ticks passed ws = option_or (one_fault word.Frame (digits 1 longest_offer) ws) (ended_fault ticks passed)
+abbrev pub frame_fault : ℕ → ℕ → ℕ → List ℕ → Option LiveLineFault
+frame_fault ticks passed at w = option_or (word_fault (digits 1 longest_offer) at w) (ended_fault ticks passed)
 
 -- what is kept of a line once its failure has ended
 abbrev pub mended_by : ℕ → LineState → Option ℕ → LineState
@@ -99,12 +98,12 @@ pub record IsKept (state : LiveState) : Type 0 where
   pub ticks : state.ticks ≤ most_ticks
   pub passed : state.passed ≤ state.ticks
 
--- a line is read, and what is kept stands for what is said with it
-pub record Reads (now : LiveState) (octets : List ℕ) (c : Config) (live : Live) (k : LiveKeyword) (ws : List (List ℕ))
+-- the word at a place is read, and what is kept stands for what is said with it
+pub record Reads (now : LiveState) (octets : List ℕ) (c : Config) (live : Live) (k : LiveKeyword) (at : ℕ) (w : List ℕ)
     (said : LiveLine) : Type 0 where
-  pub fine : rest_fault c live k ws ≡ None
-  pub told : told_line octets said ≡ happens (live_told k ws)
-  pub keeps : Keeps now c (live_after live (live_told k ws))
+  pub fine : value_fault c live k at w ≡ None
+  pub told : told_line octets said ≡ happens (live_said k w)
+  pub keeps : Keeps now c (live_after live (live_said k w))
 
 -- nothing is kept yet
 pub record IsRoom (state : LiveState) : Type 0 where

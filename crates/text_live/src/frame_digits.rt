@@ -26,41 +26,42 @@ fn is_hex(text: &[u8]) -> bool
     true
 }
 
-/// What is wrong with digits that say more octets than a frame may have.
-fn long_fault(digits: &[u8]) -> FieldFault
+/// What is wrong with digits, which are word `place` of their line, that say more octets than a frame may have.
+fn long_fault(digits: &[u8], place: u64) -> FieldFault
     requires { 65536 ≤ length digits.now / 2 }
-    ensures { octets_fault 2 1 longest_offer (decode_of digits.now) ≡ Some result }
+    ensures { octets_fault place 1 longest_offer (decode_of digits.now) ≡ Some result }
 {
     if is_hex(digits) {
         FieldFault::Size {
-            word: 2,
+            word: place,
             least: 1,
             most: LONGEST_OFFER as u64,
         }
     } else {
-        FieldFault::Hex { word: 2 }
+        FieldFault::Hex { word: place }
     }
 }
 
-/// Reads the octets of a frame in the place of those before. Their digits are the second word of a line.
-pub(crate) fn read_octets(digits: &[u8], octets: &mut Vec<u8>) -> Result<(), FieldFault>
+/// Reads the octets of a frame in the place of those before. Their digits are word `place` of a line.
+pub(crate) fn read_octets(digits: &[u8], place: u64, octets: &mut Vec<u8>) -> Result<(), FieldFault>
     requires { longest_offer ≤ vec_capacity octets.old }
     ensures room { longest_offer ≤ vec_capacity octets.new }
-    ensures fine { OnOk result (octets_fault 2 1 longest_offer (decode_of digits.now) ≡ None) }
+    ensures fine { OnOk result
+        (octets_fault place 1 longest_offer (decode_of digits.now) ≡ None) }
     ensures octets { OnOk result (octets.new.items ≡ octets_of digits.now) }
     ensures err { IfErr result (λ fault.
-        octets_fault 2 1 longest_offer (decode_of digits.now) ≡ Some fault) }
+        octets_fault place 1 longest_offer (decode_of digits.now) ≡ Some fault) }
 {
     if digits.len() / 2 > LONGEST_OFFER {
-        return Err(long_fault(digits));
+        return Err(long_fault(digits, place));
     }
     octets.clear();
     if decode_into(digits, octets).is_err() {
-        return Err(FieldFault::Hex { word: 2 });
+        return Err(FieldFault::Hex { word: place });
     }
     if octets.is_empty() {
         return Err(FieldFault::Size {
-            word: 2,
+            word: place,
             least: 1,
             most: LONGEST_OFFER as u64,
         });

@@ -13,7 +13,7 @@ const ALL_WORDS: &[u8] =
     frame, add, remove, cut, mend, pass";
 
 /// A keyword as texts have it.
-fn keyword_word(keyword: LiveKeyword) -> &'static [u8]
+pub fn keyword_word(keyword: LiveKeyword) -> &'static [u8]
     ensures word { result.now ≡ keyword_text keyword }
     ensures short { length result.now ≤ 6 }
 {

@@ -32,7 +32,7 @@ pub enum LiveKeyword {
 
 /// What a line is by its first word.
 #[derive(Clone, Copy)]
-pub(crate) enum FirstWord {
+pub enum FirstWord {
     /// A line of a script that stands before the live lines.
     Earlier(EarlierPart),
     /// A live line.
@@ -108,7 +108,7 @@ impl LiveKeyword {
 
 impl FirstWord {
     /// What a line is that a word begins.
-    pub(crate) fn of(word: &[u8]) -> FirstWord
+    pub fn of(word: &[u8]) -> FirstWord
         ensures { result ≡ first_of word.now }
     {
         if let Some(part) = earlier_part(word) {

@@ -15,10 +15,10 @@ ghost use Rattle.text_scripts.specs.script_read.Statements.{words_fault, words_s
 use crate::live_fault::{LiveFault, LiveLineFault};
 use crate::live_keyword::{EarlierPart, FirstWord, LiveKeyword};
 use crate::live_line::LiveLine;
-use crate::read_live_line::LiveState;
+use crate::read_live_line::{LiveState, count_fault};
 use law_model::{Config, LONGEST_OFFER};
 use std::alloc::{AllocError, Global};
-use text_lines::first_word;
+use text_lines::{first_word, one_word};
 use text_scripts::script_read::{ScriptReader, limit_fault};
 
 /// Reads a live text line by line. It keeps no item and no failure, but what later lines are tested by. Memory is taken
@@ -243,7 +243,10 @@ impl LiveReader {
             Ok(()) => {}
             Err(fault) => return Err(fault),
         }
-        match self.state.read(keyword, rest, &mut self.octets) {
+        let Some(word) = one_word(rest) else {
+            return Err(self.stop(count_fault(keyword, rest)));
+        };
+        match self.state.read(keyword, word, 2, &mut self.octets) {
             Ok(said) => {
                 self.number += 1;
                 Ok(said)

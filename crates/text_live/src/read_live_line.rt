@@ -1,12 +1,12 @@
 //! What is kept of live lines: the ticks that have passed, and how it stands with each line of the group.
-ghost use Rattle.std.specs.Prelude.{◌≡◌, ℕ, ◌≤◌, List, length, IfOk, IfErr, OnOk, None, Some};
+ghost use Rattle.std.specs.Prelude.{◌≡◌, ◌≢◌, ℕ, ◌+◌, ◌≤◌, List, length, IfOk, IfErr, OnOk, None, Some};
 ghost use Rattle.std.specs.Prelude.{vec_capacity};
 ghost use Rattle.law_model.specs.declared.script_types.Config.{Config};
-ghost use Rattle.text_lines.specs.WordsOfLine.{words, word_at, number_at, octets_of};
+ghost use Rattle.text_lines.specs.WordsOfLine.{words, number_of, octets_of};
 ghost use Rattle.text_lines.specs.Fields.{within};
 ghost use Rattle.law_model.specs.Common.{IsNetwork, longest_offer, most_windows};
-ghost use Rattle.law_live.specs.LiveSayings.{Live, opened, uncut};
-ghost use Rattle.text_live.specs.LiveLines.{cut_fault_by, mend_fault_by, one_fault, rest_fault};
+ghost use Rattle.law_live.specs.LiveSayings.{Live, live_after, opened, passes, uncut};
+ghost use Rattle.text_live.specs.LiveLines.{cut_fault_by, mend_fault_by, value_fault, word_fault};
 ghost use Rattle.text_live.specs.LiveReaderStands.{Keeps, IsKept, IsRoom, HasFew, Reads, mended_state, state_of};
 ghost use Rattle.text_live.specs.LiveReaderStands.{command_fault, frame_fault};
 
@@ -16,11 +16,11 @@ use crate::live_keyword::LiveKeyword;
 use crate::live_line::LiveLine;
 use law_model::{Config, MOST_LINES, MOST_WINDOWS, WindowList};
 use std::alloc::{AllocError, Global};
-use text_lines::{count_words, number_within, one_word};
+use text_lines::{count_words, number_within};
 
 /// What is kept of a line of the group.
 #[derive(Clone, Copy)]
-pub(crate) struct LineState {
+pub struct LineState {
     /// How many failures it has whose end is known.
     pub failures: u16,
     /// Where the last of them ends.
@@ -31,7 +31,7 @@ pub(crate) struct LineState {
 
 /// What is kept of live lines.
 #[derive(Drop)]
-pub(crate) struct LiveState {
+pub struct LiveState {
     /// The number of ticks.
     pub ticks: u32,
     /// How many have passed.
@@ -41,7 +41,7 @@ pub(crate) struct LiveState {
 }
 
 /// The fault of a line that has not one word behind its first.
-fn count_fault(keyword: LiveKeyword, rest: &[u8]) -> LiveLineFault
+pub fn count_fault(keyword: LiveKeyword, rest: &[u8]) -> LiveLineFault
     ensures { result ≡ LiveLineFault.Count keyword (length (words rest.now)) }
 {
     LiveLineFault::Count {
@@ -66,23 +66,15 @@ fn before_cut(list: &WindowList) -> LineState
     }
 }
 
-/// The one word of a line, which is a number from `least` to `most`.
-fn one_number(
-    keyword: LiveKeyword,
-    rest: &[u8],
-    least: u64,
-    most: u64,
-) -> Result<u64, LiveLineFault>
-    ensures fine { OnOk result (one_fault keyword (within least most) (words rest.now) ≡ None) }
-    ensures number { IfOk result (λ n. n ≡ number_at 0 (words rest.now)) }
+/// Word `place` of a line, which is a number from `least` to `most`.
+fn value_within(word: &[u8], place: u64, least: u64, most: u64) -> Result<u64, LiveLineFault>
+    ensures fine { OnOk result (word_fault (within least most) place word.now ≡ None) }
+    ensures number { IfOk result (λ n. n ≡ number_of word.now) }
     ensures fits { IfOk result (λ n. (least ≤ n) × (n ≤ most)) }
     ensures err { IfErr result (λ fault.
-        one_fault keyword (within least most) (words rest.now) ≡ Some fault) }
+        word_fault (within least most) place word.now ≡ Some fault) }
 {
-    let Some(word) = one_word(rest) else {
-        return Err(count_fault(keyword, rest));
-    };
-    Ok(number_within(word, 2, least, most)?)
+    Ok(number_within(word, place, least, most)?)
 }
 
 impl LineState {
@@ -138,7 +130,7 @@ impl LineState {
 
 impl LiveState {
     /// Nothing, with room for what is kept of 128 lines.
-    pub(crate) fn new(alloc: Global) -> Result<LiveState, AllocError>
+    pub fn new(alloc: Global) -> Result<LiveState, AllocError>
         ensures { IfOk result IsRoom }
     {
         Ok(LiveState {
@@ -149,7 +141,7 @@ impl LiveState {
     }
 
     /// What is kept before the first tick.
-    pub(crate) fn open(&mut self, config: &Config)
+    pub fn open(&mut self, config: &Config)
         requires room { IsRoom self.old }
         requires network { IsNetwork config.now }
         ensures kept { IsKept self.new }
@@ -163,14 +155,14 @@ impl LiveState {
     }
 
     /// Reads that a command is given, and the line that it names.
-    fn read_command(&self, keyword: LiveKeyword, rest: &[u8]) -> Result<u8, LiveLineFault>
+    fn read_command(&self, word: &[u8], place: u64) -> Result<u8, LiveLineFault>
         ensures fine { OnOk result
-            (command_fault self.now.ticks self.now.passed keyword (words rest.now) ≡ None) }
-        ensures number { IfOk result (λ n. n ≡ number_at 0 (words rest.now)) }
+            (command_fault self.now.ticks self.now.passed place word.now ≡ None) }
+        ensures number { IfOk result (λ n. n ≡ number_of word.now) }
         ensures err { IfErr result (λ fault.
-            command_fault self.now.ticks self.now.passed keyword (words rest.now) ≡ Some fault) }
+            command_fault self.now.ticks self.now.passed place word.now ≡ Some fault) }
     {
-        let line = match one_number(keyword, rest, 0, 255) {
+        let line = match value_within(word, place, 0, 255) {
             Ok(line) => line as u8,
             Err(fault) => return Err(fault),
         };
@@ -181,19 +173,16 @@ impl LiveState {
     }
 
     /// Reads that a frame is sent.
-    fn read_frame(&self, rest: &[u8], octets: &mut Vec<u8>) -> Result<(), LiveLineFault>
+    fn read_frame(&self, word: &[u8], place: u64, octets: &mut Vec<u8>) -> Result<(), LiveLineFault>
         requires { longest_offer ≤ vec_capacity octets.old }
         ensures room { longest_offer ≤ vec_capacity octets.new }
         ensures fine { OnOk result
-            (frame_fault self.now.ticks self.now.passed (words rest.now) ≡ None) }
-        ensures octets { OnOk result (octets.new.items ≡ octets_of (word_at 0 (words rest.now))) }
+            (frame_fault self.now.ticks self.now.passed place word.now ≡ None) }
+        ensures octets { OnOk result (octets.new.items ≡ octets_of word.now) }
         ensures err { IfErr result (λ fault.
-            frame_fault self.now.ticks self.now.passed (words rest.now) ≡ Some fault) }
+            frame_fault self.now.ticks self.now.passed place word.now ≡ Some fault) }
     {
-        let Some(word) = one_word(rest) else {
-            return Err(count_fault(LiveKeyword::Frame, rest));
-        };
-        match read_octets(word, octets) {
+        match read_octets(word, place, octets) {
             Ok(()) => {}
             Err(fault) => return Err(LiveLineFault::Field(fault)),
         }
@@ -204,17 +193,20 @@ impl LiveState {
     }
 
     /// Reads that a line is cut.
-    fn cut(&mut self, rest: &[u8]) -> Result<u8, LiveLineFault>
+    fn cut(&mut self, word: &[u8], place: u64) -> Result<u8, LiveLineFault>
         requires { IsKept self.old }
         ensures kept { IsKept self.new }
+        ensures ticks { self.new.ticks ≡ self.old.ticks }
+        ensures passed { self.new.passed ≡ self.old.passed }
         ensures ok { (octets : List ℕ) (c : Config) (live : Live) → Keeps self.old c live →
             IfOk result
-            (λ n. Reads self.new octets c live LiveKeyword.Cut (words rest.now) (LiveLine.Cut n)) }
+            (λ n. Reads self.new octets c live LiveKeyword.Cut place word.now (LiveLine.Cut n)) }
         ensures err { (c : Config) (live : Live) → Keeps self.old c live →
-            IfErr result (λ fault. rest_fault c live LiveKeyword.Cut (words rest.now) ≡ Some fault) }
+            IfErr result (λ fault.
+            value_fault c live LiveKeyword.Cut place word.now ≡ Some fault) }
     {
         let most = self.lines.len() as u64 - 1;
-        let member = match one_number(LiveKeyword::Cut, rest, 0, most) {
+        let member = match value_within(word, place, 0, most) {
             Ok(member) => member as u8,
             Err(fault) => return Err(fault),
         };
@@ -227,17 +219,20 @@ impl LiveState {
     }
 
     /// Reads that it is mended.
-    fn mend(&mut self, rest: &[u8]) -> Result<u8, LiveLineFault>
+    fn mend(&mut self, word: &[u8], place: u64) -> Result<u8, LiveLineFault>
         requires { IsKept self.old }
         ensures kept { IsKept self.new }
+        ensures ticks { self.new.ticks ≡ self.old.ticks }
+        ensures passed { self.new.passed ≡ self.old.passed }
         ensures ok { (octets : List ℕ) (c : Config) (live : Live) → Keeps self.old c live →
             IfOk result
-            (λ n. Reads self.new octets c live LiveKeyword.Mend (words rest.now) (LiveLine.Mend n)) }
+            (λ n. Reads self.new octets c live LiveKeyword.Mend place word.now (LiveLine.Mend n)) }
         ensures err { (c : Config) (live : Live) → Keeps self.old c live →
-            IfErr result (λ fault. rest_fault c live LiveKeyword.Mend (words rest.now) ≡ Some fault) }
+            IfErr result (λ fault.
+            value_fault c live LiveKeyword.Mend place word.now ≡ Some fault) }
     {
         let most = self.lines.len() as u64 - 1;
-        let member = match one_number(LiveKeyword::Mend, rest, 0, most) {
+        let member = match value_within(word, place, 0, most) {
             Ok(member) => member as u8,
             Err(fault) => return Err(fault),
         };
@@ -249,18 +244,36 @@ impl LiveState {
         Ok(member)
     }
 
-    /// Reads that ticks pass.
-    fn pass(&mut self, rest: &[u8]) -> Result<u32, LiveLineFault>
+    /// So many ticks pass.
+    pub fn pass_ticks(&mut self, ticks: u32)
+        requires kept { IsKept self.old }
+        requires left { self.old.passed + ticks ≤ self.old.ticks }
+        ensures kept { IsKept self.new }
+        ensures ticks { self.new.ticks ≡ self.old.ticks }
+        ensures passed { self.new.passed ≡ self.old.passed + ticks }
+        ensures keeps { (c : Config) (live : Live) → Keeps self.old c live →
+            Keeps self.new c (live_after live (passes ticks)) }
+    {
+        self.passed += ticks;
+    }
+
+    /// Reads that ticks pass: word `place` of a line says how many.
+    pub fn pass(&mut self, word: &[u8], place: u64) -> Result<u32, LiveLineFault>
         requires { IsKept self.old }
         ensures kept { IsKept self.new }
+        ensures ticks { self.new.ticks ≡ self.old.ticks }
+        ensures left { IfOk result (λ n. self.old.passed + n ≤ self.old.ticks) }
+        ensures passed { IfOk result (λ n. self.new.passed ≡ self.old.passed + n) }
+        ensures stays { IfErr result (λ _. self.new.passed ≡ self.old.passed) }
         ensures ok { (octets : List ℕ) (c : Config) (live : Live) → Keeps self.old c live →
             IfOk result
-            (λ n. Reads self.new octets c live LiveKeyword.Pass (words rest.now) (LiveLine.Pass n)) }
+            (λ n. Reads self.new octets c live LiveKeyword.Pass place word.now (LiveLine.Pass n)) }
         ensures err { (c : Config) (live : Live) → Keeps self.old c live →
-            IfErr result (λ fault. rest_fault c live LiveKeyword.Pass (words rest.now) ≡ Some fault) }
+            IfErr result (λ fault.
+            value_fault c live LiveKeyword.Pass place word.now ≡ Some fault) }
     {
         let most = u64::from(self.ticks - self.passed);
-        let ticks = match one_number(LiveKeyword::Pass, rest, 1, most) {
+        let ticks = match value_within(word, place, 1, most) {
             Ok(ticks) => ticks as u32,
             Err(fault) => return Err(fault),
         };
@@ -268,32 +281,35 @@ impl LiveState {
         Ok(ticks)
     }
 
-    /// Reads the words behind the keyword of a live line. The octets of a frame stand in `octets` then.
-    pub(crate) fn read(
+    /// Reads word `place` of a live line, which says what happens. The octets of a frame stand in `octets` then.
+    pub fn read(
         &mut self,
         keyword: LiveKeyword,
-        rest: &[u8],
+        word: &[u8],
+        place: u64,
         octets: &mut Vec<u8>,
     ) -> Result<LiveLine, LiveLineFault>
         requires kept { IsKept self.old }
         requires room { longest_offer ≤ vec_capacity octets.old }
         ensures kept { IsKept self.new }
         ensures room { longest_offer ≤ vec_capacity octets.new }
+        ensures ticks { self.new.ticks ≡ self.old.ticks }
+        ensures passed { keyword ≢ LiveKeyword.Pass → self.new.passed ≡ self.old.passed }
         ensures ok { (c : Config) (live : Live) → Keeps self.old c live → IfOk result (λ said.
-            Reads self.new octets.new.items c live keyword (words rest.now) said) }
+            Reads self.new octets.new.items c live keyword place word.now said) }
         ensures err { (c : Config) (live : Live) → Keeps self.old c live →
-            IfErr result (λ fault. rest_fault c live keyword (words rest.now) ≡ Some fault) }
+            IfErr result (λ fault. value_fault c live keyword place word.now ≡ Some fault) }
     {
         match keyword {
             LiveKeyword::Frame => {
-                self.read_frame(rest, octets)?;
+                self.read_frame(word, place, octets)?;
                 Ok(LiveLine::Frame)
             }
-            LiveKeyword::Add => Ok(LiveLine::Add(self.read_command(keyword, rest)?)),
-            LiveKeyword::Remove => Ok(LiveLine::Remove(self.read_command(keyword, rest)?)),
-            LiveKeyword::Cut => Ok(LiveLine::Cut(self.cut(rest)?)),
-            LiveKeyword::Mend => Ok(LiveLine::Mend(self.mend(rest)?)),
-            LiveKeyword::Pass => Ok(LiveLine::Pass(self.pass(rest)?)),
+            LiveKeyword::Add => Ok(LiveLine::Add(self.read_command(word, place)?)),
+            LiveKeyword::Remove => Ok(LiveLine::Remove(self.read_command(word, place)?)),
+            LiveKeyword::Cut => Ok(LiveLine::Cut(self.cut(word, place)?)),
+            LiveKeyword::Mend => Ok(LiveLine::Mend(self.mend(word, place)?)),
+            LiveKeyword::Pass => Ok(LiveLine::Pass(self.pass(word, place)?)),
         }
     }
 }

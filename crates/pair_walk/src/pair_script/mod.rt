@@ -13,6 +13,8 @@ mod read_pair_pieces;
 mod script_pair;
 
 pub use pair_fault_note::stop_of_pair;
+pub use pair_limits::limits_fault;
+pub use pair_reader::is_division;
 pub use pair_script_laws::{fault_law, valid_law};
 pub use read_pair_pieces::read_pair;
 pub use script_pair::{PairFault, ScriptPair};

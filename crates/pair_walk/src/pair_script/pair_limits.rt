@@ -51,7 +51,7 @@ fn unlike_fault(there: &Script, back: &Script) -> Option<PairFault>
 }
 
 /// What is wrong with the scripts of a pair as a whole: with the first, with the second, and then with both together.
-pub(super) fn limits_fault(pair: &ScriptPair) -> Option<PairFault>
+pub fn limits_fault(pair: &ScriptPair) -> Option<PairFault>
     requires there { IsUntested pair.now.there }
     requires back { IsUntested pair.now.back }
     ensures { result ≡ limits_fault pair.now }

@@ -32,7 +32,7 @@ pub(crate) struct PairReader {
 }
 
 /// Whether a line has the one word that divides.
-fn is_division(line: &[u8]) -> bool
+pub fn is_division(line: &[u8]) -> bool
     ensures { result ≡ is_division (words line.now) }
 {
     match one_word(line) {
