@@ -7,8 +7,7 @@ use Rattle.law_model.specs.Common.{AppendsPart, Start, after}
 use Rattle.octet_io.proofs.AppendedTextAndPrefixLaws.{AppendsPart-longer, AppendsPart-then}
 use Rattle.text_got.specs.TextSoFar.{Holds, Seen, WritesOrWaits, faults_of, known_of, seen, told_of}
 use Rattle.text_got.proofs.WaitingTextInBlockLaws.{Holds-then, Holds-waits}
-use Rattle.law_live.specs.Common.{got_at_text}
-use Rattle.walk_live.specs.TimedWriting.{timed_texts, HasTimed, IsTimedSince}
+use Rattle.walk_live.specs.TimedWriting.{HasTimed, IsTimedSince, got_words, worded_text, worded_texts}
 use Rattle.text_got.proofs.ToldTextGrowthLaws.{told-more, told-stopped}
 use Rattle.walk_live.specs.declared.timed_lines.TimedLines.{TimedLines}
 
@@ -71,20 +70,20 @@ module _ {K : Type 0} (written : K → Option (List ℕ)) (faults : K → ℕ) w
       }))
 
 -- one frame more
-pub timed-more : (ticks : ℕ) (waited : List ℕ) (frames : List (List ℕ)) (frame : List ℕ) →
-    (waited ++ timed_texts ticks frames) ++ got_at_text ticks frame
-    ≡ waited ++ timed_texts ticks (frames ++ frame ∷ [])
-timed-more ticks waited frames frame =
-    append_assoc waited (timed_texts ticks frames) (got_at_text ticks frame)
-    ∙ ap (λ l. waited ++ l) (sym (flat_map-append (got_at_text ticks) frames (frame ∷ [])
-    ∙ ap (λ l. timed_texts ticks frames ++ l) (append-nil (got_at_text ticks frame))))
+pub timed-more : (words : List ℕ) (ticks : ℕ) (waited : List ℕ) (frames : List (List ℕ)) (frame : List ℕ) →
+    (waited ++ worded_texts words ticks frames) ++ worded_text words ticks frame
+    ≡ waited ++ worded_texts words ticks (frames ++ frame ∷ [])
+timed-more words ticks waited frames frame =
+    append_assoc waited (worded_texts words ticks frames) (worded_text words ticks frame)
+    ∙ ap (λ l. waited ++ l) (sym (flat_map-append (worded_text words ticks) frames (frame ∷ [])
+    ∙ ap (λ l. worded_texts words ticks frames ++ l) (append-nil (worded_text words ticks frame))))
 
 -- the parts of a line
-pub got-parts : (ticks : ℕ) (frame head rest : List ℕ) → head ≡ codes "got " ++ decimal ticks ++ codes " " →
-    rest ≡ encode_lower frame ++ codes "\n" → head ++ rest ≡ got_at_text ticks frame
-got-parts ticks frame head rest first last =
+pub got-parts : (words : List ℕ) (ticks : ℕ) (frame head rest : List ℕ) → head ≡ words ++ decimal ticks ++ codes " " →
+    rest ≡ encode_lower frame ++ codes "\n" → head ++ rest ≡ worded_text words ticks frame
+got-parts words ticks frame head rest first last =
     ap₂ ◌++◌ first last
-    ∙ sym (append_assoc (codes "got " ++ decimal ticks ++ codes " ") (encode_lower frame) (codes "\n"))
+    ∙ sym (append_assoc (words ++ decimal ticks ++ codes " ") (encode_lower frame) (codes "\n"))
 
 -- what is so whatever was answered
 pub on-ok : {X E P : Type 0} (result : Result X E) → P → OnOk result P
@@ -96,6 +95,7 @@ on-ok (Err e) p = tt
 pub record IsSame {K : Type 0} (was now : TimedLines K) : Type 0 where
   pub out : now.out.ghost_name ≡ was.out.ghost_name
   pub block : now.block.ghost_name ≡ was.block.ghost_name
+  pub whose : now.whose ≡ was.whose
   pub ticks : now.ticks ≡ was.ticks
 
 -- more is told of each text
@@ -105,36 +105,47 @@ TellsMore written faults was now next = (first : Seen) (text : List ℕ) →
     WritesOrWaits now.failed first (seen (written now.out.now) (faults now.out.now)) now.block.now (text ++ next)
 
 module _ {K : Type 0} (written : K → Option (List ℕ)) (faults : K → ℕ) where
-  since-more : (was now : TimedLines K) (out before : ℕ) (octets text all next : List ℕ) → IsSame was now →
+  since-more : (was now : TimedLines K) (out before : ℕ) (octets words text all next : List ℕ) → IsSame was now →
       TellsMore written faults was now next → text ++ next ≡ all →
-      IsTimedSince written faults was out before octets text →
-      IsTimedSince written faults now out before octets all
-  since-more was now out before [] text all next same more is timed = absurd timed
-  since-more was now out before (block ∷ []) text all next same more is timed = absurd timed
-  since-more was now out before (block ∷ (ticks ∷ octets)) text all next same more is timed = record {
+      IsTimedSince written faults was out before octets words text →
+      IsTimedSince written faults now out before octets words all
+  since-more was now out before [] words text all next same more is timed = absurd timed
+  since-more was now out before (block ∷ []) words text all next same more is timed = absurd timed
+  since-more was now out before (block ∷ (ticks ∷ octets)) words text all next same more is timed = record {
     out = same.out ∙ timed.out;
     block = same.block ∙ timed.block;
+    words = ap got_words same.whose ∙ timed.words;
     ticks = same.ticks ∙ timed.ticks;
     text = subst (WritesOrWaits now.failed (seen (told_of octets) before) (seen (written now.out.now) (faults now.out.now))
         now.block.now) is (more (seen (told_of octets) before) text timed.text);
   }
 
+  -- the first words are those of its lines
+  since-words : (was : TimedLines K) (out before : ℕ) (octets words text : List ℕ) →
+      IsTimedSince written faults was out before octets words text → got_words was.whose ≡ words
+  since-words was out before [] words text timed = absurd timed
+  since-words was out before (block ∷ []) words text timed = absurd timed
+  since-words was out before (block ∷ (ticks ∷ octets)) words text timed = timed.words
+
   pub has-more : (was now : TimedLines K) (start : Start) (frames : List (List ℕ)) (frame : List ℕ) →
-      IsSame was now → TellsMore written faults was now (got_at_text was.ticks frame) →
+      IsSame was now → TellsMore written faults was now (worded_text (got_words was.whose) was.ticks frame) →
       HasTimed written faults was start frames → HasTimed written faults now start (frames ++ frame ∷ [])
   has-more was now start [] frame same more has = absurd has
-  has-more was now start (waited ∷ frames) frame same more has =
-      since-more was now start.name start.faults start.octets (waited ++ timed_texts was.ticks frames)
-      (waited ++ timed_texts now.ticks (frames ++ frame ∷ [])) (got_at_text was.ticks frame) same more
-      (timed-more was.ticks waited frames frame
-      ∙ ap (λ n. waited ++ timed_texts n (frames ++ frame ∷ [])) (sym same.ticks)) has
+  has-more was now start (waited ∷ []) frame same more has = absurd has
+  has-more was now start (waited ∷ (words ∷ frames)) frame same more has =
+      let own = since-words was start.name start.faults start.octets words
+      (waited ++ worded_texts words was.ticks frames) has in
+      since-more was now start.name start.faults start.octets words (waited ++ worded_texts words was.ticks frames)
+      (waited ++ worded_texts words now.ticks (frames ++ frame ∷ [])) (worded_text words was.ticks frame) same
+      (subst (λ w. TellsMore written faults was now (worded_text w was.ticks frame)) own more)
+      (timed-more words was.ticks waited frames frame
+      ∙ ap (λ n. waited ++ worded_texts words n (frames ++ frame ∷ [])) (sym same.ticks)) has
 
   -- after a write that failed
-  pub more-stopped : (was : TimedLines K) (frame : List ℕ) → was.failed ≡ true →
-      TellsMore written faults was was (got_at_text was.ticks frame)
-  more-stopped was frame is first text told =
+  pub more-stopped : (was : TimedLines K) (next : List ℕ) → was.failed ≡ true → TellsMore written faults was was next
+  more-stopped was next is first text told =
       told-stopped was.failed first (seen (written was.out.now) (faults was.out.now)) was.block.now was.block.now text
-      (got_at_text was.ticks frame) is told
+      next is told
 
   pub more-told : (failed : Bool) (old new : K) (waiting after next : List ℕ) → failed ≡ false →
       Holds written faults old new after (waiting ++ next) → (first : Seen) (text : List ℕ) →

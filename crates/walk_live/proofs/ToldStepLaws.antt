@@ -8,7 +8,7 @@ use Rattle.law_model.specs.Common.{Leg, Table, after, scenario_by, state_of, ste
 use Rattle.law_model.specs.declared.lcas_states.SourceState.{SourceState}
 use Rattle.law_model.specs.declared.lcas_states.SourceState.TheVariants.{Idle}
 use Rattle.law_walk.specs.Common.{cell_taken, last_packet, session_of, table_in}
-use Rattle.law_live.specs.Common.{code_at, member_code, member_text, members_text, told_among, told_of}
+use Rattle.law_live.specs.Common.{code_at, member_code, members_text, told_among, told_of}
 use Rattle.law_live.proofs.ToldMemberLaws.{among-more, among-none}
 use Rattle.text_captures.specs.packet_trace.StepText.{step_text}
 use Rattle.text_report.specs.TextCursor.{Extends, text_of}
@@ -16,6 +16,7 @@ use Rattle.text_report.specs.declared.text_cursor.TextCursor.{TextCursor}
 use Rattle.walk_engine.specs.declared.walk_core.step_answers.StepNote.{StepNote}
 use Rattle.walk_engine.specs.walk_core.WayParts.{note_of}
 use Rattle.walk_live.specs.LiveReplies.{step_line}
+use Rattle.walk_live.specs.MemberWriting.{worded_member, worded_members}
 use Rattle.walk_live.specs.PassingRounds.{AreStates, HasStates, steps_text}
 use Rattle.walk_live.specs.declared.asked.Asked.{Asked}
 use Rattle.walk_live.specs.declared.asked.Asked.TheVariants.{Nothing, Steps, Members}
@@ -46,7 +47,7 @@ last-line leg ticks j lines note table made is_note is_table is_lines =
 
 -- ---- the lines of members
 module _ (ticks : ℕ) (was now was' now' : ℕ → List ℕ) where
-  among-same : (n : ℕ) → ((m : ℕ) → m < n → was m ≡ was' m) → ((m : ℕ) → m < n → now m ≡ now' m) →
+  pub among-same : (n : ℕ) → ((m : ℕ) → m < n → was m ≡ was' m) → ((m : ℕ) → m < n → now m ≡ now' m) →
       told_among ticks was now n ≡ told_among ticks was' now' n
   among-same zero first last = among-none ticks was now ∙ sym (among-none ticks was' now')
   among-same (suc n) first last =
@@ -72,16 +73,16 @@ members-line leg j ticks lines states table made is_table is_lines are =
     ∙ ap (told_among (16 * j + 9) (code_at leg (16 * j + 8)) (code_at leg (16 * j + 9))) is_lines)
 
 -- one more
-pub members-next : (first middle now : TextCursor) (ticks : ℕ) (was is : ℕ → List ℕ) (n : ℕ) →
-    Extends first middle (members_text (told_among ticks was is n)) →
-    Extends middle now (members_text (told_of ticks n (was n) (is n))) →
-    Extends first now (members_text (told_among ticks was is (n + 1)))
-members-next first middle now ticks was is n before behind =
-    let front : List ℕ = members_text (told_among ticks was is n) in
-    let one : List ℕ = members_text (told_of ticks n (was n) (is n)) in
-    let more : members_text (told_among ticks was is (n + 1)) ≡ front ++ one =
-    ap members_text (among-more ticks was is n)
-    ∙ flat_map-append member_text (told_among ticks was is n) (told_of ticks n (was n) (is n)) in
+pub members-next : (words : List ℕ) (first middle now : TextCursor) (ticks : ℕ) (was is : ℕ → List ℕ) (n : ℕ) →
+    Extends first middle (worded_members words (told_among ticks was is n)) →
+    Extends middle now (worded_members words (told_of ticks n (was n) (is n))) →
+    Extends first now (worded_members words (told_among ticks was is (n + 1)))
+members-next words first middle now ticks was is n before behind =
+    let front : List ℕ = worded_members words (told_among ticks was is n) in
+    let one : List ℕ = worded_members words (told_of ticks n (was n) (is n)) in
+    let more : worded_members words (told_among ticks was is (n + 1)) ≡ front ++ one =
+    ap (worded_members words) (among-more ticks was is n)
+    ∙ flat_map-append (worded_member words) (told_among ticks was is n) (told_of ticks n (was n) (is n)) in
     record {
       text = behind.text ∙ ap (λ l. l ++ one) before.text ∙ append_assoc (text_of first) front one
           ∙ ap (λ l. text_of first ++ l) (sym more);
@@ -92,14 +93,15 @@ members-next first middle now ticks was is n before behind =
     }
 
 -- of a member
-pub told-same : (ticks m : ℕ) (was now : List ℕ) → bytes_eq was now ≡ true →
-    members_text (told_of ticks m was now) ≡ []
-told-same ticks m was now same = rw same refl
+pub told-same : (words : List ℕ) (ticks m : ℕ) (was now : List ℕ) → bytes_eq was now ≡ true →
+    worded_members words (told_of ticks m was now) ≡ []
+told-same words ticks m was now same = rw same refl
 
-pub told-other : (ticks m : ℕ) (was now : List ℕ) → bytes_eq was now ≡ false →
-    members_text (told_of ticks m was now) ≡ member_text (record { ticks = ticks; line = m; code = now })
-told-other ticks m was now other =
-    rw other (append-nil (member_text (record { ticks = ticks; line = m; code = now })))
+pub told-other : (words : List ℕ) (ticks m : ℕ) (was now : List ℕ) → bytes_eq was now ≡ false →
+    worded_members words (told_of ticks m was now)
+    ≡ worded_member words (record { ticks = ticks; line = m; code = now })
+told-other words ticks m was now other =
+    rw other (append-nil (worded_member words (record { ticks = ticks; line = m; code = now })))
 
 -- ---- since some ticks
 pub steps-untold : (leg : Leg) (was now : ℕ) → steps_text Nothing leg was now ≡ []

@@ -1,6 +1,6 @@
 //! A walk that is told what happens, and answers.
 ghost use Rattle.std.specs.Prelude.{◌≡◌, ◌<◌, ◌≤◌, ◌∷◌, ◌++◌, ◌+◌, ◌*◌, [], ℕ, List, OnOk, OnErr, IfOk};
-ghost use Rattle.std.specs.Prelude.{codes, decimal, length, take};
+ghost use Rattle.std.specs.Prelude.{length};
 ghost use Rattle.law_model.specs.Common.{AppendsPart, IsNetwork, Leg, most_lines, steps_in};
 ghost use Rattle.law_model.specs.declared.script_types.Config.{Config};
 ghost use Rattle.text_report.specs.ReportLines.{refused_text};
@@ -21,15 +21,16 @@ ghost use Rattle.walk_live.specs.declared.asked.Asked.{Asked};
 ghost use Rattle.walk_live.specs.declared.asked.Asked.TheVariants.{Members, Steps};
 
 use crate::asked::Asked;
-use crate::member_lines::{MEMBERS_ROOM, member_lines, states_of};
-use crate::timed_lines::TimedLines;
+use crate::member_lines::{MEMBERS_ROOM, lines_of_members, states_of};
+use crate::number_lines::{tell_now, tell_number};
+use crate::timed_lines::{TimedLines, Whose};
 use law_model::{Config, MOST_LINES, Refusal, SourceState, Totals};
 use octet_io::{ByteSink, Failed};
 use std::alloc::{AllocError, Global};
 use terminal_group::ItemRef;
 use text_captures::packet_trace::{TRACE_ROOM, trace_line};
 use text_got::TextBlock;
-use text_report::{REFUSED_ROOM, TextCursor, refused_line};
+use text_report::{REFUSED_ROOM, refused_line};
 use walk_engine::walk_core::{LiveWalk, is_step};
 
 /// A walk that is told what happens. What it answers waits in a block, or goes out where it is much.
@@ -301,7 +302,8 @@ impl AnsweredWalk {
             (block.old ++ step_line Members leg j)) }
     {
         let mut text = [0u8; MEMBERS_ROOM];
-        let end = member_lines(
+        let end = lines_of_members(
+            b"member ",
             self.walk.ticks(),
             states,
             self.walk.table(),
@@ -358,14 +360,11 @@ impl AnsweredWalk {
             (block.old ++ timed_texts (walking_counts self.old.walk).ticks (delivered_since leg
             (walking_counts self.old.walk).rows (walking_counts self.new.walk).rows))) }
     {
-        let mut lines = TimedLines::new(self.walk.ticks(), block, out);
+        let mut lines = TimedLines::new(Whose::Walk, self.walk.ticks(), block, out);
         self.walk.finish_round(&mut lines);
         lines.end()
     }
 }
-
-/// Room for a line of a word and a number, in octets.
-const NUMBER_ROOM: usize = 20;
 
 /// Adds the line of a refused item.
 fn tell_refused<K: ByteSink>(
@@ -401,45 +400,4 @@ fn tell_queue<K: ByteSink>(
         return Ok(());
     }
     tell_number(b"queue ", u32::from(waiting), block, out)
-}
-
-/// Adds the line of how many ticks have passed.
-fn tell_now<K: ByteSink>(ticks: u32, block: &mut TextBlock, out: &mut K) -> Result<(), Failed>
-    ensures told { OnOk result (Holds K.written K.faults out.old out.new block.new
-        (block.old ++ now_text ticks)) }
-    ensures part { OnErr result (AppendsPart K.written K.faults out.old out.new
-        (block.old ++ now_text ticks)) }
-{
-    tell_number(b"now ", ticks, block, out)
-}
-
-/// Adds a line of a word and a number.
-fn tell_number<K: ByteSink>(
-    word: &[u8],
-    number: u32,
-    block: &mut TextBlock,
-    out: &mut K,
-) -> Result<(), Failed>
-    requires { length word.now ≤ 6 }
-    ensures told { OnOk result (Holds K.written K.faults out.old out.new block.new
-        (block.old ++ (word.now ++ decimal number ++ codes "\n"))) }
-    ensures part { OnErr result (AppendsPart K.written K.faults out.old out.new
-        (block.old ++ (word.now ++ decimal number ++ codes "\n"))) }
-{
-    let mut line = [0u8; NUMBER_ROOM];
-    let end = number_line(word, number, &mut line);
-    block.add(&line[..end], out)
-}
-
-/// Writes that line.
-fn number_line(word: &[u8], number: u32, out: &mut [u8]) -> usize
-    requires short { length word.now ≤ 6 }
-    requires room { 20 ≤ length out.old }
-    ensures within { result ≤ 20 }
-    ensures line { take result out.new ≡ word.now ++ decimal number ++ codes "\n" }
-{
-    let mut line = TextCursor::new(out);
-    line.number(word, number);
-    line.text(b"\n");
-    line.end()
 }

@@ -3,9 +3,9 @@ ghost use Rattle.std.specs.Prelude.{◌≡◌, ◌+◌, ◌*◌, ◌≤◌, ℕ,
 ghost use Rattle.std.specs.Prelude.{codes, decimal, length, take};
 ghost use Rattle.hex.specs.Hex.{encode_lower};
 ghost use Rattle.law_model.specs.Common.{AppendsPart, longest_frame};
-ghost use Rattle.law_live.specs.Common.{got_at_text};
 ghost use Rattle.text_got.specs.TextSoFar.{Holds};
-ghost use Rattle.walk_live.specs.TimedWriting.{HasTimed, block_of, out_of, timed_start, timed_texts};
+ghost use Rattle.walk_live.specs.TimedWriting.{HasTimed, block_of, got_words, out_of, timed_start, worded_text};
+ghost use Rattle.walk_live.specs.TimedWriting.{worded_texts};
 
 use law_model::FrameOut;
 use octet_io::{ByteSink, Failed};
@@ -13,46 +13,70 @@ use text_got::TextBlock;
 use text_report::{GOT_ROOM, TextCursor};
 
 /// Room for the first words of a line, in octets.
-const HEAD_ROOM: usize = 16;
+const HEAD_ROOM: usize = 24;
+
+/// Whose frames are told: those of a walk, or those of a way of a pair.
+#[derive(Clone, Copy, Debug, PartialEq, Eq)]
+pub enum Whose {
+    /// Of a walk.
+    Walk,
+    /// Of the way there.
+    There,
+    /// Of the way back.
+    Back,
+}
 
 /// Writes the line of each frame that it is given, with the ticks that are made, in a block that is lent. After a write
 /// that failed it writes nothing more.
 #[derive(Drop)]
-pub(crate) struct TimedLines<'a, K> {
-    out: &'a mut K,
-    block: &'a mut TextBlock,
-    ticks: u32,
-    failed: bool,
+pub struct TimedLines<'a, K> {
+    /// Where lines are put where many wait.
+    pub out: &'a mut K,
+    /// Where they wait.
+    pub block: &'a mut TextBlock,
+    /// Whose frames they are.
+    pub whose: Whose,
+    /// How many ticks are made.
+    pub ticks: u32,
+    /// Whether a write has failed.
+    pub failed: bool,
 }
 
 impl<'a, K: ByteSink> TimedLines<'a, K> {
     /// Writes lines with this number of ticks, behind what waits in `block`.
-    pub(crate) fn new(ticks: u32, block: &'a mut TextBlock, out: &'a mut K) -> TimedLines<'a, K>
+    pub fn new(
+        whose: Whose,
+        ticks: u32,
+        block: &'a mut TextBlock,
+        out: &'a mut K,
+    ) -> TimedLines<'a, K>
         ensures out { out_of result ≡ out.entry.ghost_name }
         ensures block { block_of result ≡ block.entry.ghost_name }
         ensures fresh { HasTimed K.written K.faults result
-            (timed_start K.written K.faults out.old (out_of result) (block_of result) ticks) (block.old ∷ []) }
+            (timed_start K.written K.faults out.old (out_of result) (block_of result) ticks)
+            (block.old ∷ got_words whose ∷ []) }
     {
         TimedLines {
             out,
             block,
+            whose,
             ticks,
             failed: false,
         }
     }
 
     /// Whether no write has failed.
-    pub(crate) fn end(&self) -> Result<(), Failed>
-        ensures ok { (first : K) (out block ticks : ℕ) (waited : List ℕ) (frames : List (List ℕ)) →
-            HasTimed K.written K.faults self.now
-            (timed_start K.written K.faults first out block ticks) (waited ∷ frames) →
+    pub fn end(&self) -> Result<(), Failed>
+        ensures ok { (first : K) (out block ticks : ℕ) (waited words : List ℕ)
+            (frames : List (List ℕ)) → HasTimed K.written K.faults self.now
+            (timed_start K.written K.faults first out block ticks) (waited ∷ words ∷ frames) →
             OnOk result (Holds K.written K.faults first self.now.out.now self.now.block.now
-            (waited ++ timed_texts ticks frames)) }
-        ensures err { (first : K) (out block ticks : ℕ) (waited : List ℕ) (frames : List (List ℕ)) →
-            HasTimed K.written K.faults self.now
-            (timed_start K.written K.faults first out block ticks) (waited ∷ frames) →
+            (waited ++ worded_texts words ticks frames)) }
+        ensures err { (first : K) (out block ticks : ℕ) (waited words : List ℕ)
+            (frames : List (List ℕ)) → HasTimed K.written K.faults self.now
+            (timed_start K.written K.faults first out block ticks) (waited ∷ words ∷ frames) →
             OnErr result (AppendsPart K.written K.faults first self.now.out.now
-            (waited ++ timed_texts ticks frames)) }
+            (waited ++ worded_texts words ticks frames)) }
     {
         if self.failed { Err(Failed) } else { Ok(()) }
     }
@@ -67,7 +91,7 @@ impl<'a, K: ByteSink> FrameOut for TimedLines<'a, K> {
         if self.failed {
             return;
         }
-        match add_timed(self.ticks, frame, self.block, self.out) {
+        match add_timed(self.whose, self.ticks, frame, self.block, self.out) {
             Ok(()) => {}
             Err(Failed) => self.failed = true,
         }
@@ -76,6 +100,7 @@ impl<'a, K: ByteSink> FrameOut for TimedLines<'a, K> {
 
 /// Adds the line of a frame, and puts what waits where it is much.
 fn add_timed<K: ByteSink>(
+    whose: Whose,
     ticks: u32,
     frame: &[u8],
     block: &mut TextBlock,
@@ -83,12 +108,12 @@ fn add_timed<K: ByteSink>(
 ) -> Result<(), Failed>
     requires { length frame.now ≤ longest_frame }
     ensures ok { OnOk result (Holds K.written K.faults out.old out.new block.new
-        (block.old ++ got_at_text ticks frame.now)) }
+        (block.old ++ worded_text (got_words whose) ticks frame.now)) }
     ensures err { OnErr result (AppendsPart K.written K.faults out.old out.new
-        (block.old ++ got_at_text ticks frame.now)) }
+        (block.old ++ worded_text (got_words whose) ticks frame.now)) }
 {
     let mut head = [0u8; HEAD_ROOM];
-    let end = head_text(ticks, &mut head);
+    let end = head_text(whose, ticks, &mut head);
     match block.add(&head[..end], out) {
         Ok(()) => {}
         Err(Failed) => return Err(Failed),
@@ -98,15 +123,26 @@ fn add_timed<K: ByteSink>(
     block.add(&rest[..end], out)
 }
 
+/// The first words of the line of a frame.
+fn first_words(whose: Whose) -> &'static [u8]
+    ensures words { result.now ≡ got_words whose }
+    ensures short { length result.now ≤ 10 }
+{
+    match whose {
+        Whose::Walk => b"got ",
+        Whose::There => b"got there ",
+        Whose::Back => b"got back ",
+    }
+}
+
 /// Writes the words of a line that stand before the digits of its frame.
-fn head_text(ticks: u32, out: &mut [u8]) -> usize
-    requires room { 16 ≤ length out.old }
-    ensures within { result ≤ 16 }
-    ensures text { take result out.new ≡ codes "got " ++ decimal ticks ++ codes " " }
+fn head_text(whose: Whose, ticks: u32, out: &mut [u8]) -> usize
+    requires room { 24 ≤ length out.old }
+    ensures within { result ≤ 24 }
+    ensures text { take result out.new ≡ got_words whose ++ decimal ticks ++ codes " " }
 {
     let mut line = TextCursor::new(out);
-    line.text(b"got ");
-    line.decimal(ticks);
+    line.number(first_words(whose), ticks);
     line.text(b" ");
     line.end()
 }

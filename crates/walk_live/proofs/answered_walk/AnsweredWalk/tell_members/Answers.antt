@@ -13,7 +13,7 @@ returns-clause-told g c leg j stands lines made are =
     let P : List ℕ → Type 0 = λ text. Holds g.K.ByteSink.written g.K.ByteSink.faults c.args.out.now c.add.new.out
     c.add.new.self (c.args.block.now ++ text) in
     on_ok_weaker c.add.result
-    (subst P (c.member_lines-end.ensures.lines
+    (subst P (c.lines_of_members-end.ensures.lines
     ∙ members-line leg j c.ticks.result self.lines c.args.states.now c.table.result.now.source.table
     (c.ticks.ensures ∙ made) (c.table.ensures.table leg stands ∙ ap (table_in leg) (sym c.ticks.ensures)) lines are))
     c.add.ensures.ok
@@ -24,7 +24,7 @@ returns-clause-part g c leg j stands lines made are =
     let P : List ℕ → Type 0 = λ text. AppendsPart g.K.ByteSink.written g.K.ByteSink.faults c.args.out.now c.add.new.out
     (c.args.block.now ++ text) in
     on_err_weaker c.add.result
-    (subst P (c.member_lines-end.ensures.lines
+    (subst P (c.lines_of_members-end.ensures.lines
     ∙ members-line leg j c.ticks.result self.lines c.args.states.now c.table.result.now.source.table
     (c.ticks.ensures ∙ made) (c.table.ensures.table leg stands ∙ ap (table_in leg) (sym c.ticks.ensures)) lines are))
     c.add.ensures.err
