@@ -401,13 +401,13 @@ module _ (own : PairWay) (other : Script) (stands : StandsAs (way_of own.script 
     subst (λ dues. IsNonDecreasing (command_dues dues)) (sym dues-same) stands.sound.items.commands,
   )
 
-  pub first-of : first_due (left_after own.core.source.landed.frames own.core.source.landed.commands
+  pub first-of : first_due (left_after own.live.core.source.landed.frames own.live.core.source.landed.commands
       (dues_of own.script.items)) ≡ due_of_next found
   first-of =
       sym (first in-order
       ∙ ap (λ n. first_due (left_after n own.landing.commands (dues_of own.landing.items))) known.frames
-      ∙ ap (λ n. first_due (left_after own.core.source.landed.frames n (dues_of own.landing.items))) known.commands
-      ∙ ap (λ dues. first_due (left_after own.core.source.landed.frames own.core.source.landed.commands dues))
+      ∙ ap (λ n. first_due (left_after own.live.core.source.landed.frames n (dues_of own.landing.items))) known.commands
+      ∙ ap (λ dues. first_due (left_after own.live.core.source.landed.frames own.live.core.source.landed.commands dues))
       dues-same)
 
   item-step : land_item (walk_plan (way_of own.script other)) (way_counts own)
@@ -433,18 +433,18 @@ module _ (own : PairWay) (other : Script) (stands : StandsAs (way_of own.script 
   goes-none none = goes-same Done
       (item-step ∙ ap (λ (o : Option NextItem). land_first (due_of_next o) (way_counts own)) (sym none))
 
-  pub goes-early : (next : NextItem) → Some next ≡ found → own.core.source.core.ticks < next.due →
+  pub goes-early : (next : NextItem) → Some next ≡ found → own.live.core.source.core.ticks < next.due →
       Goes (way_of own.script other) own (land_item (walk_plan (way_of own.script other)) (way_counts own))
       (next_refusal (way_of own.script other) (way_counts own)) (Stalled (NotDue next.due))
   goes-early next some early = goes-same (NotDue next.due)
       (item-step ∙ ap (λ (o : Option NextItem). land_first (due_of_next o) (way_counts own)) (sym some)
       ∙ first-early (way_counts own) next.client next.due early)
 
-  pub goes-landed : (next : NextItem) → Some next ≡ found → next.due ≤ own.core.source.core.ticks →
+  pub goes-landed : (next : NextItem) → Some next ≡ found → next.due ≤ own.live.core.source.core.ticks →
       (step (walk_plan (way_of own.script other)) (way_counts own) (landing_of next.client)).cause ≡ None →
       (now : Parts) (why : Option Refusal) →
-      Makes (way_of own.script other) (packets_in own.core.sink.taken) (landing_of next.client) own.core now
-      (answer_by None why) → now.sink.taken ≡ own.core.sink.taken →
+      Makes (way_of own.script other) (packets_in own.live.core.sink.taken) (landing_of next.client) own.live.core now
+      (answer_by None why) → now.sink.taken ≡ own.live.core.sink.taken →
       GoesOn (way_of own.script other) now
       (land_item (walk_plan (way_of own.script other)) (way_counts own))
       (next_refusal (way_of own.script other) (way_counts own)) (answer_by None why)

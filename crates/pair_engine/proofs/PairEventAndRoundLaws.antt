@@ -1,47 +1,48 @@
--- A pair before any event, after one event (Follows), and after rounds; a way beside the other (AreBeside).
+-- A pair before any event, after one event (Follows), and after rounds; a way beside the other (IsWayBeside).
 use Rattle.std.proofs.Common.{◌≡◌, ℕ, zero, suc, ◌+◌, ◌-◌, ◌<◌, ◌≤◌, nat_le, nat_lt, List, [], ◌∷◌, ◌++◌, length}
 use Rattle.std.proofs.Common.{replicate, drop, Option, Some, None, option_map, refl, sym, ◌∙◌, ap, subst, arith, inl}
-use Rattle.std.proofs.Common.{inr, true, false, slice_index_or, ap₂, ◌*◌, map}
+use Rattle.std.proofs.Common.{inr, true, false, slice_index_or, ap₂}
 use Rattle.std.proofs.lemmas.Bool.{cases_Bool}
 use Rattle.std.proofs.lemmas.List.{drop_all}
 use Rattle.law_model.proofs.ListLaws.{map-none}
 use Rattle.law_model.specs.Common.{Due, frame_due, command_due, LinePath, LineCounts, Plan, Counts, pop_lines, Start}
-use Rattle.law_model.specs.Common.{Leg, used_in, Step, begin, told_in}
+use Rattle.law_model.specs.Common.{Leg, Step}
 use Rattle.law_model.specs.declared.walk_events.StallCause.{StallCause}
 use Rattle.law_model.specs.declared.walk_events.StallCause.TheVariants.{NotDue}
 use Rattle.law_model.specs.declared.script_types.Script.{Script}
 use Rattle.law_model.specs.declared.item_refusals.Refusal.{Refusal}
 use Rattle.law_pair.specs.Common.{IsPair, IsPairWalked, PairPlan, PairCounts, plan_on, counts_on, pair_step, pair_run}
 use Rattle.law_pair.specs.Common.{carries_on, pair_round, pair_drain, pair_bound, is_over, left_after, first_due}
-use Rattle.law_pair.specs.Common.{land_first, land_item, landed, tick_of, take_said, take_one, with_lag, IsPairPlan}
-use Rattle.law_pair.specs.Common.{IsPairReached, way_of, pair_plan, or_else, IsWay, PairStep, on_way, pair_begin}
+use Rattle.law_pair.specs.Common.{tick_cause, land_first, land_item, landed, tick_of, take_said, take_one, with_lag}
+use Rattle.law_pair.specs.Common.{IsPairPlan, IsPairReached, way_of, pair_plan, or_else, IsWay, PairStep, on_way, pair_begin}
 use Rattle.law_pair.specs.declared.pair_events.Way.{Way}
 use Rattle.law_pair.specs.declared.pair_events.Way.TheVariants.{There, Back}
 use Rattle.law_pair.specs.declared.pair_events.PairEvent.{PairEvent}
 use Rattle.law_pair.specs.declared.pair_events.PairEvent.TheVariants.{Item, Tick, Carry, Take}
-use Rattle.law_pair.proofs.PairWayAndPacketLaws.{has-pair-plan, there-taken, back-taken, pair-turned, way-sound}
+use Rattle.law_pair.proofs.PairWayAndPacketLaws.{has-pair-plan, there-taken, back-taken, way-sound}
 use Rattle.pair_engine.specs.declared.pair_answers.PairMoved.{PairMoved}
 use Rattle.pair_engine.specs.declared.pair_answers.PairMoved.TheVariants.{Stalled}
 use Rattle.pair_engine.specs.PairAfterEvent.{Paired, plan_of, leg_on, step_of, with_counts, after, answer_by, GivesWay}
 use Rattle.pair_engine.specs.PairAfterEvent.{moved_on, script_on, moved_of, refusal_in}
-use Rattle.walk_engine.specs.Common.{GivesRows, HasWindows, answer_by as way_answer, HasLanded, IsAlike, counts_of}
+use Rattle.walk_engine.specs.Common.{GivesRows, HasWindows, answer_by as way_answer, HasLanded}
 use Rattle.walk_engine.proofs.WalkRoundAndTotalsLaws.{gives-then, drop-next, replicate-add}
 use Rattle.law_pair.proofs.ReachedPairAndStallLaws.{goes-near}
 use Rattle.law_pair.proofs.PairMeasureAndDrainLaws.{pair_made, is-near, walks-fits, pair-round-less, pair-turns}
-use Rattle.law_pair.proofs.PairMeasureAndDrainLaws.{pair-stops, run-append, kinds, IsNear, pair-steps, pair-begins}
-use Rattle.law_model.specs.session.Scenario.{packets_in}
-use Rattle.terminal_group.specs.ReturnInbox.{Inbox, empty_inbox}
+use Rattle.law_pair.proofs.PairMeasureAndDrainLaws.{pair-stops, run-append, kinds, pair-steps, pair-begins}
+use Rattle.law_model.specs.members.Damage.{carried}
+use Rattle.pair_engine.specs.declared.live_way.LiveWay.{LiveWay}
 use Rattle.pair_engine.specs.declared.pair_way.PairWay.{PairWay}
-use Rattle.pair_engine.specs.ToldAndHeard.{Said, heard_in}
-use Rattle.pair_engine.specs.WayCalls.{IsQuiet, Goes, TakesRow}
-use Rattle.pair_engine.specs.Ways.{leg_beside, pair_counts, StandsAs, LandedAs, Meets, IsWayBeside, IsPairWalk}
-use Rattle.pair_engine.specs.Ways.{AreBeside, way_counts, IsNewWay}
-use Rattle.law_walk.specs.Common.{walk_plan, said_packet, back_cell}
+use Rattle.pair_engine.specs.LivePairs.{GoesOn, LiveBeside, PairAgreesNow, PairLives, WayLives}
+use Rattle.pair_engine.specs.WayCalls.{CanTickBoth, IsQuiet, Goes, Keeps, TakesRow}
+use Rattle.pair_engine.specs.Ways.{leg_beside, pair_counts, StandsAs, LandedAs, IsWayBeside, IsPairWalk}
+use Rattle.pair_engine.specs.Ways.{way_counts, walking_of, walking_both, IsNewWay}
+use Rattle.pair_engine.proofs.LiveWayLaws.{back-beside, new-counts, new-lives, new-pair-counts, no-rows, seen-lives}
+use Rattle.pair_engine.proofs.LiveWayLaws.{still-lives, there-beside, way-alike}
+use Rattle.law_walk.specs.Common.{walk_plan}
 use Rattle.walk_engine.specs.declared.walk_core.step_answers.Moved.{Moved}
 use Rattle.law_walk.proofs.WalkPlanAndPoppedCellLaws.{has-paths, sound-walks}
-use Rattle.std.specs.List.{range_with_len}
-use Rattle.walk_engine.specs.walk_core.WayParts.{WayStands}
 use Rattle.walk_engine.proofs.OpenedWayLaws.{none-known}
+use Rattle.walk_engine.proofs.WayEventAndToldSourceLaws.{landing-stays}
 
 -- ---- Rounds of a pair: items land until they stall, each line is tried once, and so for the rest.
 -- ---- events one after another
@@ -356,73 +357,100 @@ over-rows a b e fits walked over =
     )
 
 -- ---- What is known of a way and the other one, and what a call that the other doesn't see leaves of that.
--- ---- of a pair
-module _ (there back : PairWay) (walk : IsPairWalk there back) where
-  near : IsNear (pair_plan there.script back.script) (pair_counts there back)
-  near =
-      let plan : PairPlan = pair_plan there.script back.script in
-      let s : PairCounts = pair_counts there back in
-      let is = has-pair-plan there.script back.script walk.pair in
-      is-near plan s is (goes-near plan s is walk.walked)
+-- what both hold
+pub lives-of : (there back : PairWay) → IsPairWalk there back →
+    PairLives there.script back.script (walking_both there.live back.live)
+lives-of there back walk = record {
+  fits = walk.pair;
+  walked = walk.walked;
+  there_way = walk.there_way.lives;
+  back_way = walk.back_way.lives;
+}
 
-  pub there-beside : AreBeside there back
-  there-beside = record {
-    pair = walk.pair;
-    own_way = walk.there_way;
-    other_way = walk.back_way;
-    together = near.together;
-    told = let plan : PairPlan = pair_plan there.script back.script in
-        (walks-fits (with_lag plan.lag plan.there) (pair_counts there back).there near.there).used;
-  }
+pub there-live : (there back : PairWay) → IsPairWalk there back →
+    LiveBeside there.script back.script (walking_of there.live) (walking_of back.live)
+there-live there back walk =
+    there-beside there.script back.script (walking_both there.live back.live) (lives-of there back walk)
 
-  pub back-beside : AreBeside back there
-  back-beside = record {
-    pair = pair-turned there.script back.script walk.pair;
-    own_way = walk.back_way;
-    other_way = walk.there_way;
-    together = sym near.together;
-    told = let plan : PairPlan = pair_plan there.script back.script in
-        subst (λ lag. used_in lag back.core.source.core.ticks ≤ packets_in back.core.sink.taken) walk.pair.lag
-        (walks-fits (with_lag plan.lag plan.back) (pair_counts there back).back near.back).used;
-  }
+pub back-live : (there back : PairWay) → IsPairWalk there back →
+    LiveBeside back.script there.script (walking_of back.live) (walking_of there.live)
+back-live there back walk =
+    back-beside there.script back.script (walking_both there.live back.live) (lives-of there back walk)
 
--- ---- where nothing of it was seen
-pub meets-same : (other : Script) (other_rows : ℕ) (script script_now : Script) (rows rows_now ticks ticks_now : ℕ)
-    (said said_now : Said) (inbox inbox_now : Inbox) →
-    script_now ≡ script → said_now ≡ said → ticks_now ≡ ticks → inbox_now ≡ inbox → rows_now ≡ rows →
-    Meets script other rows other_rows ticks said inbox →
-    Meets script_now other rows_now other_rows ticks_now said_now inbox_now
-meets-same other other_rows script script_now rows rows_now ticks ticks_now said said_now inbox inbox_now a b c d e is =
-    subst (λ (x : Script). Meets x other rows_now other_rows ticks_now said_now inbox_now) (sym a)
-    (subst (λ (x : Said). Meets script other rows_now other_rows ticks_now x inbox_now) (sym b)
-    (subst (λ n. Meets script other rows_now other_rows n said inbox_now) (sym c)
-    (subst (λ (x : Inbox). Meets script other rows_now other_rows ticks said x) (sym d)
-    (subst (λ n. Meets script other n other_rows ticks said inbox) (sym e) is))))
+-- a way and the other one, each in its place
+abbrev pub there_of : Way → PairWay → PairWay → PairWay
+there_of There own other = own
+there_of Back own other = other
+
+-- each way beside the other one
+abbrev AreWays : PairWay → PairWay → Type 0
+AreWays own other = IsWayBeside other own × IsWayBeside own other
+
+are-ways : (way : Way) (own other : PairWay) → IsPairWalk (there_of way own other) (there_of way other own) →
+    AreWays own other
+are-ways There own other walk = (walk.there_way, walk.back_way)
+are-ways Back own other walk = (walk.back_way, walk.there_way)
 
 -- a way that moved so
-pub quiet-own : (other own now : PairWay) → IsWayBeside other own → IsQuiet own now →
+quiet-own : (other own now : PairWay) → IsWayBeside other own → IsQuiet own now →
     StandsAs (leg_beside own other) now → LandedAs (leg_beside own other) now → IsWayBeside other now
 quiet-own other own now is quiet stands landed = record {
-  stands = subst (λ (x : Script). StandsAs (way_of x other.script) now) (sym quiet.script) stands;
-  windows = subst (λ (x : Script). HasWindows x.config now.core.lines) (sym quiet.script)
+  lives = subst (λ (x : Script). WayLives x other.script other.live.core.sink.taken (walking_of now.live))
+      (sym quiet.script)
+      (still-lives own.script other.script other.live.core.sink.taken (walking_of own.live) (walking_of now.live)
+      is.lives quiet.still stands);
+  windows = subst (λ (x : Script). HasWindows x.config now.live.core.lines) (sym quiet.script)
       (λ m low. ap (λ windows. slice_index_or windows m []) quiet.windows ∙ is.windows m low);
   landed = subst (λ (x : Script). LandedAs (way_of x other.script) now) (sym quiet.script) landed;
-  meets = meets-same other.script other.core.sink.taken own.script now.script own.core.sink.taken now.core.sink.taken
-      own.core.source.core.ticks now.core.source.core.ticks own.said now.said own.core.source.inbox
-      now.core.source.inbox quiet.script quiet.said quiet.ticks quiet.inbox quiet.rows is.meets;
 }
 
 -- and the other one, which sees its script and its rows alone
-pub seen-other : (other own now : PairWay) → IsWayBeside own other → now.script ≡ own.script →
-    now.core.sink.taken ≡ own.core.sink.taken → IsWayBeside now other
+seen-other : (other own now : PairWay) → IsWayBeside own other → now.script ≡ own.script →
+    now.live.core.sink.taken ≡ own.live.core.sink.taken → IsWayBeside now other
 seen-other other own now is script rows = record {
-  stands = subst (λ (x : Script). StandsAs (way_of other.script x) other) (sym script) is.stands;
+  lives = subst (λ (x : Script). WayLives other.script x now.live.core.sink.taken (walking_of other.live)) (sym script)
+      (seen-lives other.script own.script own.live.core.sink.taken now.live.core.sink.taken (walking_of other.live)
+      rows is.lives);
   windows = is.windows;
   landed = subst (λ (x : Script). LandedAs (way_of other.script x) other) (sym script) is.landed;
-  meets = subst (λ n. Meets other.script now.script other.core.sink.taken n other.core.source.core.ticks other.said
-      other.core.source.inbox) (sym rows)
-      (subst (λ (x : Script). Meets other.script x other.core.sink.taken own.core.sink.taken
-      other.core.source.core.ticks other.said other.core.source.inbox) (sym script) is.meets);
+}
+
+-- a way in which nothing lands, whatever becomes of both live halves
+abbrev pub with_live : PairWay → LiveWay → PairWay
+with_live own now = record own { live = now }
+
+kept-own : (other own : PairWay) (other_now now : LiveWay) → IsWayBeside other own →
+    WayLives own.script other.script other_now.core.sink.taken (walking_of now) →
+    Keeps (walking_of own.live) (walking_of now) → IsWayBeside (with_live other other_now) (with_live own now)
+kept-own other own other_now now is lives keeps = record {
+  lives = lives;
+  windows = λ m low. ap (λ windows. slice_index_or windows m []) keeps.windows ∙ is.windows m low;
+  landed = landing-stays (leg_beside own other) (way_counts own) (way_counts (with_live own now)) own.landing
+      keeps.frames keeps.commands is.landed;
+}
+
+-- ---- a tick
+-- each container comes as the lines' windows have it, which are the scripts'
+pub can-tick-both : (there back : PairWay) → IsPairWalk there back →
+    tick_cause (pair_plan there.script back.script) (pair_counts there back) ≡ None →
+    CanTickBoth there.script back.script (walking_both there.live back.live)
+can-tick-both there back walk free = record { lives = lives-of there back walk; free = free; agrees = agrees }
+  where
+    agrees : PairAgreesNow there.script back.script (walking_both there.live back.live)
+    agrees There m low = ap (λ windows. carried windows there.live.core.source.core.ticks)
+        (sym (walk.there_way.windows m low))
+    agrees Back m low = ap (λ windows. carried windows back.live.core.source.core.ticks)
+        (sym (walk.back_way.windows m low))
+
+pub tick-walk : (there back : PairWay) (there_now back_now : LiveWay) (next : PairCounts) → IsPairWalk there back →
+    GoesOn there.script back.script next (walking_both there_now back_now) →
+    Keeps (walking_of there.live) (walking_of there_now) → Keeps (walking_of back.live) (walking_of back_now) →
+    IsPairWalk (with_live there there_now) (with_live back back_now)
+tick-walk there back there_now back_now next walk goes there_keeps back_keeps = record {
+  pair = walk.pair;
+  walked = goes.lives.walked;
+  there_way = kept-own back there back_now there_now walk.there_way goes.lives.there_way there_keeps;
+  back_way = kept-own there back there_now back_now walk.back_way goes.lives.back_way back_keeps;
 }
 
 -- ---- Why a pair stalls, and what an event of one way leaves of the pair.
@@ -445,11 +473,6 @@ cause-later d r found none e = e ∙ sym (ap (λ x. or_else x r) none)
 -- a pair, as it is seen
 abbrev pub paired : PairWay → PairWay → Paired
 paired there back = record { there = there.script; back = back.script; counts = pair_counts there back }
-
--- a way and the other one, each in its place
-abbrev pub there_of : Way → PairWay → PairWay → PairWay
-there_of There own other = own
-there_of Back own other = other
 
 abbrev pub pair_of : Way → PairWay → PairWay → Paired
 pair_of way own other = paired (there_of way own other) (there_of way other own)
@@ -515,29 +538,30 @@ pub quiet-follows : (way : Way) (own other now : PairWay) (event : Way → PairE
     (next (way_of own.script script) (way_counts own)) (why (way_of own.script script) (way_counts own)) answer) →
     Follows (there_of way now other) (there_of way other now) (pair_of way own other) (event way) (moved_on way answer)
 quiet-follows way own other now event next why answer walk is refuses quiet moves =
-    let beside = beside-on way own other walk in
-    let goes = moves other.script beside.own_way.stands beside.own_way.landed in
+    let (own_way, other_way) = are-ways way own other walk in
+    let goes = moves other.script own_way.lives.stands own_way.landed in
     way-follows way own other now other (event way) (next (leg_beside own other) (way_counts own))
     (why (leg_beside own other) (way_counts own)) answer walk is refuses quiet.script refl
-    (quiet-own other own now beside.own_way quiet goes.stands goes.landed)
-    (seen-other other own now beside.other_way quiet.script quiet.rows) goes.counts refl goes.moved
-  where
-    beside-on : (way : Way) (own other : PairWay) → IsPairWalk (there_of way own other) (there_of way other own) →
-        AreBeside own other
-    beside-on There own other walk = there-beside own other walk
-    beside-on Back own other walk = back-beside other own walk
+    (quiet-own other own now own_way quiet goes.stands goes.landed)
+    (seen-other other own now other_way quiet.script quiet.still.rows) goes.counts refl goes.moved
 
 -- a row of a way
-pub take-follows : (way : Way) (own other own_now other_now : PairWay) (answer : Moved) →
+pub take-follows : (way : Way) (own other : PairWay) (own_now other_now : LiveWay) (answer : Moved) →
     IsPairWalk (there_of way own other) (there_of way other own) → step_of (pair_of way own other) (Take way)
     ≡ on_way way (take_one (walk_plan (leg_beside own other)) (way_counts own)) (pair_of way own other).counts →
-    TakesRow own other own_now other_now answer →
-    Follows (there_of way own_now other_now) (there_of way other_now own_now) (pair_of way own other) (Take way)
+    TakesRow own.script other.script (walking_of own.live) (walking_of other.live) (walking_of own_now)
+    (walking_of other_now) answer → Keeps (walking_of own.live) (walking_of own_now) →
+    Keeps (walking_of other.live) (walking_of other_now) →
+    Follows (there_of way (with_live own own_now) (with_live other other_now))
+    (there_of way (with_live other other_now) (with_live own own_now)) (pair_of way own other) (Take way)
     (moved_on way answer)
-take-follows way own other own_now other_now answer walk is takes =
-    way-follows way own other own_now other_now (Take way)
-    (take_one (walk_plan (leg_beside own other)) (way_counts own)) None answer walk is refl takes.own_script
-    takes.other_script takes.own_way takes.other_way takes.own_counts takes.other_counts takes.moved
+take-follows way own other own_now other_now answer walk is takes own_keeps other_keeps =
+    let (own_way, other_way) = are-ways way own other walk in
+    way-follows way own other (with_live own own_now) (with_live other other_now) (Take way)
+    (take_one (walk_plan (leg_beside own other)) (way_counts own)) None answer walk is refl refl refl
+    (kept-own other own other_now own_now own_way takes.own_way own_keeps)
+    (kept-own own other own_now other_now other_way takes.other_way other_keeps) takes.own_counts
+    takes.other_counts takes.moved
 
 -- as it is seen from without
 pub seen-follows : {there_now back_now : PairWay} {said : PairMoved} (p q : Paired) (at way : Way)
@@ -565,72 +589,39 @@ line-in pair Back line is low =
     let size = paths-size pair.back pair.there is.back_way in omega (arith, size, low)
 
 -- ---- A way before any event.
--- ---- a script with twice the lag
-abbrev pub doubled : Script → Script
-doubled script = record script { config = record script.config { lag = 2 * script.config.lag } }
-
-pub way-alike : (script other : Script) → IsWay script → IsAlike (way_of script other) (doubled script).config
-way-alike script other is = record { sound = way-sound script other is; network = refl }
-
--- ---- nothing has moved
-module _ (own : PairWay) (other : Script) (new : IsNewWay own.script own) where
-  pub no-rows : own.core.sink.taken ≡ 0
-  no-rows = ap (λ (s : Counts). s.rows) (new.core.counts other)
-
-  no-packets : packets_in own.core.sink.taken ≡ 0
-  no-packets = ap packets_in no-rows
-
-  pub new-counts : way_counts own ≡ begin (walk_plan (way_of own.script other))
-  new-counts = ap (λ n. counts_of own.core n) no-packets ∙ new.core.counts other
-
-  new-meets : Meets own.script other 0 0 0 (record { packets = []; room = own.script.config.lag })
-      (empty_inbox [] (2 * own.script.config.lag))
-  new-meets =
-      let lag = own.script.config.lag in
-      let u = used_in lag 0 in
-      let v = used_in (2 * lag) 0 in
-      let none : packets_in 0 - u ≡ 0 = omega arith in
-      let still : heard_in lag 0 - v ≡ 0 = omega arith in
-      record {
-        packets = sym (ap (λ n. map (said_packet (way_of own.script other)) (range_with_len u n)) none);
-        room = refl;
-        heard = record {
-          lost = refl;
-          room = refl;
-          come = let e : 0 ≡ heard_in lag 0 = omega arith in e;
-          tells = sym (ap (λ n. map told_in (map (back_cell (way_of own.script other)) (range_with_len v n))) still);
-        };
-      }
-
-pub new-beside : (own other : PairWay) → IsNewWay own.script own → other.core.sink.taken ≡ 0 → IsWayBeside other own
-new-beside own other new none = record {
-  stands = subst (λ n. WayStands (leg_beside own other) n own.core) (sym (no-packets own other.script new))
-      (new.core.stands other.script);
-  windows = new.core.windows;
-  landed = subst (λ (s : Counts). HasLanded (leg_beside own other) s own.landing)
-      (sym (new-counts own other.script new)) (none-known (leg_beside own other) own.landing new.landing);
-  meets = subst (λ n. Meets own.script other.script own.core.sink.taken n own.core.source.core.ticks own.said
-      own.core.source.inbox) (sym none)
-      (meets-same other.script 0 own.script own.script 0 own.core.sink.taken 0 own.core.source.core.ticks
-      (record { packets = []; room = own.script.config.lag }) own.said
-      (empty_inbox [] (2 * own.script.config.lag)) own.core.source.inbox refl new.said
-      (ap (λ (s : Counts). s.ticks) (new.core.counts other.script)) new.core.inbox (no-rows own other.script new)
-      (new-meets own other.script new));
-}
+new-beside : (own other : PairWay) → IsWay own.script → IsNewWay own.script own → other.live.core.sink.taken ≡ 0 →
+    IsWayBeside other own
+new-beside own other is new none =
+    let alike = way-alike own.script.config own.script other.script is refl in
+    record {
+      lives = new-lives own.script.config own.script other.script (walking_of own.live) refl alike new.live
+          other.live.core.sink.taken none;
+      windows = new.live.windows;
+      landed = subst (λ (s : Counts). HasLanded (leg_beside own other) s own.landing)
+          (sym (new-counts own.script.config own.script other.script (walking_of own.live) refl alike new.live))
+          (none-known (leg_beside own other) own.landing new.landing);
+    }
 
 -- ---- a pair before any event
-pub new-pair-counts : (there back : PairWay) → IsNewWay there.script there → IsNewWay back.script back →
-    pair_counts there back ≡ pair_begin (pair_plan there.script back.script)
-new-pair-counts there back one two =
-    ap₂ (λ (s t : Counts). record { there = s; back = t }) (new-counts there back.script one)
-    (new-counts back there.script two)
+pub begun-counts : (there back : PairWay) → IsPair there.script back.script → IsNewWay there.script there →
+    IsNewWay back.script back → pair_counts there back ≡ pair_begin (pair_plan there.script back.script)
+begun-counts there back pair one two =
+    new-pair-counts there.script.config back.script.config there.script back.script
+    (walking_both there.live back.live) pair refl refl
+    (way-alike there.script.config there.script back.script pair.there_way refl)
+    (way-alike back.script.config back.script there.script pair.back_way refl) one.live two.live
 
-pub new-pair : (there back : PairWay) → IsPair there.script back.script → IsNewWay there.script there →
+pub begun-pair : (there back : PairWay) → IsPair there.script back.script → IsNewWay there.script there →
     IsNewWay back.script back → IsPairWalk there back
-new-pair there back pair one two = record {
-  pair = pair;
-  walked = subst (IsPairWalked there.script back.script) (sym (new-pair-counts there back one two))
-      (pair-begins (pair_plan there.script back.script));
-  there_way = new-beside there back one (no-rows back there.script two);
-  back_way = new-beside back there two (no-rows there back.script one);
-}
+begun-pair there back pair one two =
+    let there_alike = way-alike there.script.config there.script back.script pair.there_way refl in
+    let back_alike = way-alike back.script.config back.script there.script pair.back_way refl in
+    record {
+      pair = pair;
+      walked = subst (IsPairWalked there.script back.script) (sym (begun-counts there back pair one two))
+          (pair-begins (pair_plan there.script back.script));
+      there_way = new-beside there back pair.there_way one
+          (no-rows back.script.config back.script there.script (walking_of back.live) refl back_alike two.live);
+      back_way = new-beside back there pair.back_way two
+          (no-rows there.script.config there.script back.script (walking_of there.live) refl there_alike one.live);
+    }

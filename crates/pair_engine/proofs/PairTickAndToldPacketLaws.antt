@@ -2,7 +2,7 @@
 use Rattle.std.proofs.Common.{◌≡◌, ℕ, ◌+◌, ◌-◌, ◌*◌, ◌%◌, ◌==◌, ◌<◌, nat_le, true, if◌then◌else◌, List, [], ◌∷◌, ◌++◌}
 use Rattle.std.proofs.Common.{length, map, drop, slice_get, Option, Some, None, refl, sym, ◌∙◌, ap, arith, inl, inr}
 use Rattle.std.proofs.Common.{is_some, eqb-true, leb-true, leb-false, ◌/◌, ◌&&◌, ◌≤◌, false, Bool, subst}
-use Rattle.std.proofs.Common.{slice_index_or, eq-eqb, le-leb, ap₂}
+use Rattle.std.proofs.Common.{eq-eqb, le-leb, ap₂, option_map}
 use Rattle.std.specs.List.{range_with_len}
 use Rattle.std.proofs.lemmas.Bool.{cases_Bool, cases_lt, and_parts}
 use Rattle.std.proofs.lemmas.List.{length-map}
@@ -10,32 +10,37 @@ use Rattle.std.proofs.lemmas.List.FromFn.{length-range_with_len}
 use Rattle.law_model.specs.Common.{BackCell, Leg, told_in, scenario_by, cells_before, Counts, used_in, untold}
 use Rattle.law_model.specs.Common.{telling_at, passed_on, told_by, Step, moved, step}
 use Rattle.law_model.specs.declared.control_packet.Packet.{Packet}
+use Rattle.law_model.specs.declared.script_types.Script.{Script}
 use Rattle.law_model.specs.session.Scenario.{packets_in}
 use Rattle.terminal_source.specs.source_core.Terminal.{needed_at, needed}
 use Rattle.terminal_source.specs.source_core.GivenScenario.{with_cell}
-use Rattle.law_walk.specs.Common.{CanWalk, said_packet, back_cell, told_before, walk_plan}
+use Rattle.law_walk.specs.Common.{CanWalk, said_packet, back_cell, cell_taken, last_packet, told_before, walk_plan}
 use Rattle.terminal_group.specs.ReturnInbox.{cell_for, rest_for, Inbox}
 use Rattle.terminal_group.specs.Source.{missing_by}
 use Rattle.pair_engine.specs.ToldAndHeard.{Said, untold_packets, tells_next, told_now, left_untold, heard_in}
-use Rattle.pair_engine.specs.ToldAndHeard.{heard_cells}
+use Rattle.pair_engine.specs.ToldAndHeard.{cell_shown, heard_cells}
 use Rattle.law_model.specs.declared.walk_events.Event.TheVariants.{Tick}
 use Rattle.law_walk.proofs.AcceptedFrameAndDrainedWalkLaws.{counts-within}
 use Rattle.law_walk.proofs.WalkPlanAndPoppedCellLaws.{sound-walks}
 use Rattle.terminal_group.specs.SourceByCounts.{missing_from}
-use Rattle.terminal_group.specs.declared.landed_counts.LandedCounts.{LandedCounts}
-use Rattle.law_pair.specs.Common.{way_of, is_unsaid, ticked, tick_cause, tick_by, pair_plan, IsPairWalked}
+use Rattle.law_pair.specs.Common.{way_of, is_unsaid, ticked, tick_by, pair_plan, IsPairWalked}
 use Rattle.law_pair.proofs.PairWayAndPacketLaws.{says-told}
 use Rattle.law_pair.proofs.ReachedPairAndStallLaws.{IsFree, free-ticks, both-free}
-use Rattle.walk_engine.specs.Common.{Parts, counts_of, Makes, IsTold, CanTick, windows_in, StandsForSome}
-use Rattle.law_model.specs.members.Damage.{carried}
+use Rattle.walk_engine.specs.Common.{AgreesAt, Parts, counts_of, Makes, IsTold, CanTick, windows_in, StandsForSome}
+use Rattle.walk_engine.specs.Common.{note_of}
+use Rattle.walk_engine.specs.declared.walk_core.step_answers.StepNote.{StepNote}
 use Rattle.walk_engine.specs.declared.walk_core.step_answers.Moved.{Moved}
 use Rattle.walk_engine.specs.walk_core.WayParts.{WayStands}
-use Rattle.walk_engine.proofs.WayEventAndToldSourceLaws.{landing-stays}
-use Rattle.pair_engine.specs.declared.pair_way.PairWay.{PairWay}
-use Rattle.pair_engine.specs.Ways.{way_counts, Meets, IsWayBeside, AreBeside, pair_counts, IsPairWalk}
-use Rattle.pair_engine.proofs.PairEventAndRoundLaws.{meets-same, seen-other, there-beside, back-beside}
+use Rattle.pair_engine.specs.LivePairs.{GoesOn, LiveBeside, PairWalking, WayLives, WayWalking, way_walked}
+use Rattle.pair_engine.specs.LivePairs.{IsShownAs, walking_counts}
+use Rattle.pair_engine.specs.ToldAndHeard.{Meets}
+use Rattle.pair_engine.specs.WayCalls.{CanTickBoth, Keeps}
+use Rattle.terminal_group.specs.declared.landed_counts.LandedCounts.{LandedCounts}
+use Rattle.pair_engine.proofs.LiveWayLaws.{meets-same, noted-same, seen-lives, there-beside, back-beside}
+use Rattle.pair_engine.proofs.ShownCellLaws.{note-shown}
 use Rattle.law_model.specs.declared.walk_events.StallCause.{StallCause}
 use Rattle.law_pair.specs.declared.pair_events.Way.{Way}
+use Rattle.law_pair.specs.declared.pair_events.Way.TheVariants.{There, Back}
 use Rattle.law_pair.specs.declared.pair_events.PairEvent.TheVariants.{Tick as Tick_both}
 use Rattle.law_pair.proofs.PairMeasureAndDrainLaws.{pair-steps}
 use Rattle.walk_engine.specs.declared.walk_core.step_answers.Moved.TheVariants.{Yes}
@@ -89,33 +94,47 @@ told-left leg lag ticks rows said is was_said =
     ]
 
 -- ---- what is heard
+first-rest : {X : Type 0} (x y : X) (xs ys : List X) → x ∷ xs ≡ y ∷ ys → (x ≡ y) × (xs ≡ ys)
+first-rest x y xs ys same = (cc, cc)
+
 heard-first : (leg : Leg) (lag ticks rows : ℕ) (cells : List BackCell) →
     used_in leg.config.lag ticks < heard_in lag rows →
     used_in leg.config.lag (ticks + 1) ≡ used_in leg.config.lag ticks + 1 →
     map told_in cells ≡ map told_in (heard_cells leg lag ticks rows) →
+    map cell_shown cells ≡ map cell_shown (heard_cells leg lag ticks rows) →
     (first : BackCell) × (rest : List BackCell) × (cells ≡ first ∷ rest)
     × (told_in first ≡ told_in (back_cell leg (used_in leg.config.lag ticks)))
     × (map told_in rest ≡ map told_in (heard_cells leg lag (ticks + 1) rows))
-heard-first leg lag ticks rows [] low more tells =
+    × (cell_shown first ≡ cell_shown (back_cell leg (used_in leg.config.lag ticks)))
+    × (map cell_shown rest ≡ map cell_shown (heard_cells leg lag (ticks + 1) rows))
+heard-first leg lag ticks rows [] low more tells shown =
     let e : [] ≡ told_in (back_cell leg (used_in leg.config.lag ticks))
     ∷ map told_in (heard_cells leg lag (ticks + 1) rows) =
     tells ∙ ap (map told_in)
     (return_laws.inbox-taken leg (counts_with ticks rows (heard_in lag rows)) (ticks + 1) low more) in
     absurd cc
-heard-first leg lag ticks rows (first ∷ rest) low more tells =
-    let e : told_in first ∷ map told_in rest ≡ told_in (back_cell leg (used_in leg.config.lag ticks))
-    ∷ map told_in (heard_cells leg lag (ticks + 1) rows) =
-    tells ∙ ap (map told_in)
-    (return_laws.inbox-taken leg (counts_with ticks rows (heard_in lag rows)) (ticks + 1) low more) in
-    (first, rest, refl, cc, cc)
+heard-first leg lag ticks rows (first ∷ rest) low more tells shown =
+    let taken = return_laws.inbox-taken leg (counts_with ticks rows (heard_in lag rows)) (ticks + 1) low more in
+    let (told, told_rest) = first-rest (told_in first) (told_in (back_cell leg (used_in leg.config.lag ticks)))
+    (map told_in rest) (map told_in (heard_cells leg lag (ticks + 1) rows)) (tells ∙ ap (map told_in) taken) in
+    let (seen, seen_rest) = first-rest (cell_shown first) (cell_shown (back_cell leg (used_in leg.config.lag ticks)))
+    (map cell_shown rest) (map cell_shown (heard_cells leg lag (ticks + 1) rows))
+    (shown ∙ ap (map cell_shown) taken) in
+    (first, rest, refl, told, told_rest, seen, seen_rest)
 
--- the return cell that a tick takes, where it needs one, is the leg's; it is there; and the others are left
+-- the return cell that a tick takes, where it needs one, tells what the leg's does, and the same is shown of it; it is
+-- there; and the others are left
 pub record HeardNext (leg : Leg) (lag ticks rows : ℕ) (cells : List BackCell) : Type 0 where
   pub there : missing_by (needed_at leg.config.lag ticks) cells ≡ None
   pub told : told_before leg (ticks + 1)
       ≡ with_cell (told_before leg ticks) (cell_for (is_some (needed_at leg.config.lag ticks)) cells)
   pub tells : map told_in (rest_for (is_some (needed_at leg.config.lag ticks)) cells)
       ≡ map told_in (heard_cells leg lag (ticks + 1) rows)
+  pub shown : map cell_shown (rest_for (is_some (needed_at leg.config.lag ticks)) cells)
+      ≡ map cell_shown (heard_cells leg lag (ticks + 1) rows)
+  pub first : is_some (needed_at leg.config.lag ticks) ≡ true →
+      option_map cell_shown (cell_for (is_some (needed_at leg.config.lag ticks)) cells)
+      ≡ Some (cell_shown (back_cell leg (used_in leg.config.lag ticks)))
 
 pub heard-next : (leg : Leg) (lag ticks rows : ℕ) (cells : List BackCell) → CanWalk leg →
     (needed_at leg.config.lag ticks ≡ None → used_in leg.config.lag (ticks + 1) ≡ used_in leg.config.lag ticks) →
@@ -123,8 +142,9 @@ pub heard-next : (leg : Leg) (lag ticks rows : ℕ) (cells : List BackCell) → 
     × (used_in leg.config.lag (ticks + 1) ≡ used_in leg.config.lag ticks + 1)
     × (16 * used_in leg.config.lag ticks + 23 < leg.config.ticks)) →
     map told_in cells ≡ map told_in (heard_cells leg lag ticks rows) →
+    map cell_shown cells ≡ map cell_shown (heard_cells leg lag ticks rows) →
     HeardNext leg lag ticks rows cells
-heard-next leg lag ticks rows cells can none some tells = by (needed_at leg.config.lag ticks) refl
+heard-next leg lag ticks rows cells can none some tells shown = by (needed_at leg.config.lag ticks) refl
   where
     by : (needs : Option ℕ) → needed_at leg.config.lag ticks ≡ needs → HeardNext leg lag ticks rows cells
     by None is =
@@ -135,10 +155,14 @@ heard-next leg lag ticks rows cells can none some tells = by (needed_at leg.conf
               ∙ sym (ap (λ (n : Option ℕ). with_cell (told_before leg ticks) (cell_for (is_some n) cells)) is);
           tells = ap (λ (n : Option ℕ). map told_in (rest_for (is_some n) cells)) is ∙ tells
               ∙ ap (λ u. map told_in (map (back_cell leg) (range_with_len u (heard_in lag rows - u)))) (sym same);
+          shown = ap (λ (n : Option ℕ). map cell_shown (rest_for (is_some n) cells)) is ∙ shown
+              ∙ ap (λ u. map cell_shown (map (back_cell leg) (range_with_len u (heard_in lag rows - u)))) (sym same);
+          first = λ needs. absurd (let e : true ≡ false = sym needs ∙ ap is_some is in cc);
         }
     by (Some packet) is =
         let (low, more, ends) = some (ap is_some is) in
-        let (first, rest, whole, own, left) = heard-first leg lag ticks rows cells low more tells in
+        let (first, rest, whole, own, left, seen, seen_left) =
+        heard-first leg lag ticks rows cells low more tells shown in
         record {
           there = ap (λ n. missing_by n cells) is ∙ ap (missing_by (Some packet)) whole;
           told = ap (cells_before (scenario_by leg)) more
@@ -148,6 +172,10 @@ heard-next leg lag ticks rows cells can none some tells = by (needed_at leg.conf
               ∙ ap (λ (all : List BackCell). with_cell (told_before leg ticks) (slice_get all 0)) whole);
           tells = ap (λ (n : Option ℕ). map told_in (rest_for (is_some n) cells)) is
               ∙ ap (λ (all : List BackCell). map told_in (drop 1 all)) whole ∙ left;
+          shown = ap (λ (n : Option ℕ). map cell_shown (rest_for (is_some n) cells)) is
+              ∙ ap (λ (all : List BackCell). map cell_shown (drop 1 all)) whole ∙ seen_left;
+          first = λ needs. ap (λ (n : Option ℕ). option_map cell_shown (cell_for (is_some n) cells)) is
+              ∙ ap (λ (all : List BackCell). option_map cell_shown (slice_get all 0)) whole ∙ ap Some seen;
         }
 
 -- how many wait
@@ -169,11 +197,11 @@ said-size leg lag ticks rows =
 
 -- ---- A tick of both ways, as one of them sees it.
 -- whether the next frame of a way tells, and which packet
-abbrev pub tells_of : PairWay → Bool
-tells_of own = tells_next own.script.config.lag own.core.source.core.ticks
+abbrev pub tells_of : Script → WayWalking → Bool
+tells_of script own = tells_next script.config.lag own.core.source.core.ticks
 
-abbrev pub used_of : PairWay → ℕ
-used_of own = used_in own.script.config.lag own.core.source.core.ticks
+abbrev pub used_of : Script → WayWalking → ℕ
+used_of script own = used_in script.config.lag own.core.source.core.ticks
 
 -- ---- numbers
 -- what is told was said
@@ -208,70 +236,96 @@ used-more : (lag ticks : ℕ) → ticks % 16 ≡ 8 → lag ≤ ticks / 16 →
 used-more lag ticks at late = (omega (arith, at, late), omega (arith, at, late))
 
 -- ---- one way, beside the other
-module _ (own other : PairWay) (beside : AreBeside own other)
-    (free : IsFree (walk_plan (way_of own.script other.script)) own.script.config.lag (way_counts own))
-    (other_free : IsFree (walk_plan (way_of other.script own.script)) other.script.config.lag (way_counts other)) where
+module _ (script other : Script) (own beside : WayWalking) (are : LiveBeside script other own beside)
+    (free : IsFree (walk_plan (way_of script other)) script.config.lag (way_walked own))
+    (other_free : IsFree (walk_plan (way_of other script)) other.config.lag (way_walked beside))
+    (agrees : AgreesAt (way_of script other) own.core.source.core.ticks (windows_in own.core.lines)) where
   abbrev leg : Leg
-  leg = way_of own.script other.script
+  leg = way_of script other
 
   abbrev other_leg : Leg
-  other_leg = way_of other.script own.script
+  other_leg = way_of other script
 
   abbrev lag : ℕ
-  lag = own.script.config.lag
+  lag = script.config.lag
 
   abbrev ticks : ℕ
   ticks = own.core.source.core.ticks
 
-  abbrev is : WayStands (way_of own.script other.script) (packets_in own.core.sink.taken) own.core
-  is = beside.own_way.stands
+  abbrev is : WayStands (way_of script other) (packets_in own.core.sink.taken) own.core
+  is = are.own_way.stands
 
-  can : CanWalk (way_of own.script other.script)
+  can : CanWalk (way_of script other)
   can = sound-walks leg is.sound
 
   -- what is left to tell there
-  left-own : (left_untold (tells_of own) own.said).packets ≡ untold_packets (way_of own.script other.script)
-      own.script.config.lag (own.core.source.core.ticks + 1) own.core.sink.taken
-  left-own = (told-left leg lag ticks own.core.sink.taken own.said beside.own_way.meets.packets
-      (λ tells. (told-said lag (way_counts own) free.said tells).0)).1
+  left-own : (left_untold (tells_of script own) own.said).packets ≡ untold_packets (way_of script other)
+      script.config.lag (own.core.source.core.ticks + 1) own.core.sink.taken
+  left-own = (told-left leg lag ticks own.core.sink.taken own.said are.own_way.meets.packets
+      (λ tells. (told-said lag (way_walked own) free.said tells).0)).1
 
   -- ---- before the frame
   pub ticks-free : own.core.source.core.ticks < own.core.source.total
   ticks-free =
-      let low = leb-false own.script.config.ticks own.core.source.core.ticks free.open_ in
+      let low = leb-false script.config.ticks own.core.source.core.ticks free.open_ in
       let total = is.total in
       omega (arith, low, total)
 
-  low-rows : (other.core.sink.taken ≤ other.core.source.core.ticks)
-      × (other.core.source.core.ticks ≤ other.script.config.ticks)
+  low-rows : (beside.core.sink.taken ≤ beside.core.source.core.ticks)
+      × (beside.core.source.core.ticks ≤ other.config.ticks)
   low-rows =
-      let stands = beside.other_way.stands in
-      counts-within other_leg (way_counts other) (sound-walks other_leg stands.sound) stands.walked
+      let stands = are.other_way.stands in
+      counts-within other_leg (way_walked beside) (sound-walks other_leg stands.sound) stands.walked
 
-  pub hears : HeardNext (way_of own.script other.script) own.script.config.lag own.core.source.core.ticks
-      other.core.sink.taken own.core.source.inbox.cells
+  pub hears : HeardNext (way_of script other) script.config.lag own.core.source.core.ticks
+      beside.core.sink.taken own.core.source.inbox.cells
   hears =
-      heard-next leg lag ticks other.core.sink.taken own.core.source.inbox.cells can
+      heard-next leg lag ticks beside.core.sink.taken own.core.source.inbox.cells can
       (used-same leg.config.lag ticks)
       (λ some.
       let (at, late) = needs-late leg.config.lag ticks some in
       let (more, used) = used-more leg.config.lag ticks at late in
-      let same_lag = beside.pair.lag in
-      let same_ticks = beside.pair.ticks in
-      let together = beside.together in
+      let same_lag = are.pair.lag in
+      let same_ticks = are.pair.ticks in
+      let together = are.together in
       let (low, high) = low-rows in
-      let tells : tells_next other.script.config.lag other.core.source.core.ticks ≡ true =
+      let tells : tells_next other.config.lag beside.core.source.core.ticks ≡ true =
       rw (
-        le-leb (16 * other.script.config.lag + 8) other.core.source.core.ticks
+        le-leb (16 * other.config.lag + 8) beside.core.source.core.ticks
             (omega (arith, at, late, same_lag, together)),
-        eq-eqb (other.core.source.core.ticks % 16) 8 (omega (arith, at, together)),
+        eq-eqb (beside.core.source.core.ticks % 16) 8 (omega (arith, at, together)),
       ) refl in
-      let said = (told-said other.script.config.lag (way_counts other) other_free.said tells).0 in (
+      let said = (told-said other.config.lag (way_walked beside) other_free.said tells).0 in (
         omega (arith, said, at, late, used, same_lag, together),
         more,
         omega (arith, said, at, late, used, same_lag, same_ticks, together, low, high),
       ))
-      beside.own_way.meets.heard.tells
+      are.own_way.meets.heard.tells are.own_way.meets.heard.shown
+
+  -- what is shown of the return cell that a decision step takes
+  pub cell-noted : (cell : Option BackCell) →
+      cell ≡ cell_for (is_some (needed own.core.source.core)) own.core.source.inbox.cells →
+      own.core.source.core.ticks % 16 ≡ 8 →
+      option_map cell_shown cell
+      ≡ option_map cell_shown (cell_taken (way_of script other) (own.core.source.core.ticks / 16))
+  cell-noted cell first at =
+      let same : cell ≡ cell_for (is_some (needed_at leg.config.lag ticks)) own.core.source.inbox.cells =
+      first ∙ ap (λ n. cell_for (is_some (needed_at n ticks)) own.core.source.inbox.cells) is.source.lag in
+      let place = eq-eqb (ticks % 16) 8 at in
+      elim (cases_Bool (nat_le leg.config.lag (ticks / 16))) [
+        | inl late ↦
+            let needs : is_some (needed_at leg.config.lag ticks) ≡ true = rw (place, late) refl in
+            let (more, used) = used-more leg.config.lag ticks at (leb-true leg.config.lag (ticks / 16) late) in
+            let taken : cell_taken leg (ticks / 16) ≡ Some (back_cell leg (ticks / 16 - leg.config.lag)) =
+            rw late refl in
+            ap (option_map cell_shown) same ∙ hears.first needs ∙ ap (λ k. Some (cell_shown (back_cell leg k))) used
+            ∙ sym (ap (option_map cell_shown) taken)
+        | inr early ↦
+            let needs : is_some (needed_at leg.config.lag ticks) ≡ false = rw (place, early) refl in
+            let taken : cell_taken leg (ticks / 16) ≡ None = rw early refl in
+            ap (option_map cell_shown)
+            (same ∙ ap (λ b. cell_for b own.core.source.inbox.cells) needs ∙ sym taken)
+      ]
 
   pub cell-there : missing_from own.core.source ≡ None
   cell-there =
@@ -279,73 +333,74 @@ module _ (own other : PairWay) (beside : AreBeside own other)
       ∙ hears.there
 
   -- ---- what its packets tell of the other way
-  other-told : told_now (tells_of other) other.said.packets
-      ≡ (if tells_of other then Some (said_packet (way_of other.script own.script) (used_of other)) else None)
+  other-told : told_now (tells_of other beside) beside.said.packets
+      ≡ (if tells_of other beside then Some (said_packet (way_of other script) (used_of other beside)) else None)
   other-told =
-      (told-left other_leg other.script.config.lag other.core.source.core.ticks other.core.sink.taken other.said
-      beside.other_way.meets.packets
-      (λ tells. (told-said other.script.config.lag (way_counts other) other_free.said tells).0)).0
+      (told-left other_leg other.config.lag beside.core.source.core.ticks beside.core.sink.taken beside.said
+      are.other_way.meets.packets
+      (λ tells. (told-said other.config.lag (way_walked beside) other_free.said tells).0)).0
 
   -- where it tells a return packet, and where it doesn't
-  told-some : tells_of other ≡ true → told_by (said_packet (way_of other.script own.script) (used_of other))
-      ≡ telling_at (scenario_by (way_of own.script other.script)) (own.core.source.core.ticks / 16)
+  told-some : tells_of other beside ≡ true → told_by (said_packet (way_of other script) (used_of other beside))
+      ≡ telling_at (scenario_by (way_of script other)) (own.core.source.core.ticks / 16)
   told-some tells =
-      let stands = beside.other_way.stands in
-      let k : ℕ = used_of other in
-      let (said, at, late) = told-said other.script.config.lag (way_counts other) other_free.said tells in
-      let same_lag = beside.pair.lag in
-      let together = beside.together in
-      let low : 16 * k + 23 < other.core.sink.taken = omega (arith, said, at, late) in
-      ap told_by (sym (return_laws.packet-said other_leg (way_counts other) k (sound-walks other_leg stands.sound)
+      let stands = are.other_way.stands in
+      let k : ℕ = used_of other beside in
+      let (said, at, late) = told-said other.config.lag (way_walked beside) other_free.said tells in
+      let same_lag = are.pair.lag in
+      let together = are.together in
+      let low : 16 * k + 23 < beside.core.sink.taken = omega (arith, said, at, late) in
+      ap told_by (sym (return_laws.packet-said other_leg (way_walked beside) k (sound-walks other_leg stands.sound)
       stands.walked low))
-      ∙ says-told other.script own.script (way_counts other) k beside.pair.back_way stands.walked low
+      ∙ says-told other script (way_walked beside) k are.pair.back_way stands.walked low
       ∙ ap (telling_at (scenario_by leg))
-      (let e : k + own.script.config.lag ≡ ticks / 16 = omega (arith, at, late, same_lag, together) in e)
+      (let e : k + script.config.lag ≡ ticks / 16 = omega (arith, at, late, same_lag, together) in e)
 
-  told-none : tells_of other ≡ false → own.core.source.core.ticks % 16 ≡ 8 →
-      untold ≡ telling_at (scenario_by (way_of own.script other.script)) (own.core.source.core.ticks / 16)
+  told-none : tells_of other beside ≡ false → own.core.source.core.ticks % 16 ≡ 8 →
+      untold ≡ telling_at (scenario_by (way_of script other)) (own.core.source.core.ticks / 16)
   told-none silent at =
-      let same_lag = beside.pair.lag in
-      let together = beside.together in
-      elim (cases_lt (ticks / 16) own.script.config.lag) [
-        | inl early ↦ sym (heard_laws.told-early own.script other.script (ticks / 16) early)
+      let same_lag = are.pair.lag in
+      let together = are.together in
+      elim (cases_lt (ticks / 16) script.config.lag) [
+        | inl early ↦ sym (heard_laws.told-early script other (ticks / 16) early)
         | inr late ↦
-            let tells : tells_next other.script.config.lag other.core.source.core.ticks ≡ true =
+            let tells : tells_next other.config.lag beside.core.source.core.ticks ≡ true =
             rw (
-              le-leb (16 * other.script.config.lag + 8) other.core.source.core.ticks
+              le-leb (16 * other.config.lag + 8) beside.core.source.core.ticks
                   (omega (arith, at, late, same_lag, together)),
-              eq-eqb (other.core.source.core.ticks % 16) 8 (omega (arith, at, together)),
+              eq-eqb (beside.core.source.core.ticks % 16) 8 (omega (arith, at, together)),
             ) refl in
             absurd (let e : true ≡ false = sym tells ∙ silent in cc)
       ]
 
-  is-told : (told : Option Packet) → told ≡ told_now (tells_of other) other.said.packets →
-      IsTold (way_of own.script other.script) own.core.source.core.ticks told
+  is-told : (told : Option Packet) → told ≡ told_now (tells_of other beside) beside.said.packets →
+      IsTold (way_of script other) own.core.source.core.ticks told
   is-told told same =
-      elim (cases_Bool (tells_of other)) [
+      elim (cases_Bool (tells_of other beside)) [
         | inl tells ↦
-            let whole : told ≡ Some (said_packet other_leg (used_of other)) = same ∙ other-told ∙ rw tells refl in
+            let whole : told ≡ Some (said_packet other_leg (used_of other beside)) =
+            same ∙ other-told ∙ rw tells refl in
             record {
               step = λ at. ap passed_on whole ∙ told-some tells;
               between = λ no. absurd (no
-                  (let at = (told-said other.script.config.lag (way_counts other) other_free.said tells).1 in
-                  let together = beside.together in omega (arith, at, together)));
+                  (let at = (told-said other.config.lag (way_walked beside) other_free.said tells).1 in
+                  let together = are.together in omega (arith, at, together)));
             }
         | inr silent ↦
             let none : told ≡ None = same ∙ other-told ∙ rw silent refl in
             record { step = λ at. ap passed_on none ∙ told-none silent at; between = λ no. none }
       ]
 
-  tick-moves : step (walk_plan (way_of own.script other.script)) (way_counts own) Tick ≡ moved (ticked (way_counts own))
-  tick-moves = free-ticks (walk_plan leg) lag (way_counts own) (omega arith) refl free
+  tick-moves : step (walk_plan (way_of script other)) (way_walked own) Tick ≡ moved (ticked (way_walked own))
+  tick-moves = free-ticks (walk_plan leg) lag (way_walked own) (omega arith) refl free
 
-  pub can-tick : (told : Option Packet) (cell : Option BackCell) → told ≡ told_now (tells_of other) other.said.packets →
+  pub can-tick : (told : Option Packet) (cell : Option BackCell) →
+      told ≡ told_now (tells_of other beside) beside.said.packets →
       cell ≡ cell_for (is_some (needed own.core.source.core)) own.core.source.inbox.cells →
-      CanTick (way_of own.script other.script) (packets_in own.core.sink.taken) own.core told cell
+      CanTick (way_of script other) (packets_in own.core.sink.taken) own.core told cell
   can-tick told cell same first = record {
     free = sym (ap (λ (s : Step). s.cause) tick-moves);
-    agrees = λ m low. ap (λ windows. carried windows own.core.source.core.ticks)
-        (sym (beside.own_way.windows m low));
+    agrees = agrees;
     tells = is-told told same;
     cells = hears.told ∙ sym (ap (with_cell (told_before leg ticks)) (first
         ∙ ap (λ n. cell_for (is_some (needed_at n own.core.source.core.ticks)) own.core.source.inbox.cells)
@@ -354,16 +409,15 @@ module _ (own other : PairWay) (beside : AreBeside own other)
 
   -- ---- after the frame
   module _ (now : Parts) (answer : Moved)
-      (makes : Makes (way_of own.script other.script) (packets_in own.core.sink.taken) Tick own.core now answer)
+      (makes : Makes (way_of script other) (packets_in own.core.sink.taken) Tick own.core now answer)
       (at : now.source.core.ticks ≡ own.core.source.core.ticks + 1)
       (boxed : now.source.inbox ≡ record own.core.source.inbox
       { cells = rest_for (is_some (needed own.core.source.core)) own.core.source.inbox.cells })
-      (rest : now ≡ record own.core { source = now.source; sent = now.sent })
-      (landed : now.source.landed ≡ own.core.source.landed) where
+      (rest : now ≡ record own.core { source = now.source; sent = now.sent }) where
     pub tick-rows : now.sink.taken ≡ own.core.sink.taken
     tick-rows = ap (λ (p : Parts). p.sink.taken) rest
 
-    pub tick-counts : counts_of now (packets_in now.sink.taken) ≡ ticked (way_counts own)
+    pub tick-counts : counts_of now (packets_in now.sink.taken) ≡ ticked (way_walked own)
     tick-counts = ap (λ n. counts_of now (packets_in n)) tick-rows ∙ makes.counts
         ∙ ap (λ (s : Step). s.counts) tick-moves
 
@@ -376,16 +430,17 @@ module _ (own other : PairWay) (beside : AreBeside own other)
         { cells = rest_for (is_some (needed_at n own.core.source.core.ticks)) own.core.source.inbox.cells })
         is.source.lag
 
-    meets-after : Meets own.script other.script own.core.sink.taken other.core.sink.taken
-        (own.core.source.core.ticks + 1) (left_untold (tells_of own) own.said) box-left
+    meets-after : Meets script other own.core.sink.taken beside.core.sink.taken
+        (own.core.source.core.ticks + 1) (left_untold (tells_of script own) own.said) box-left
     meets-after = record {
       packets = left-own;
-      room = left-room (tells_of own) own.said ∙ beside.own_way.meets.room;
+      room = left-room (tells_of script own) own.said ∙ are.own_way.meets.room;
       heard = record {
-        lost = beside.own_way.meets.heard.lost;
-        room = beside.own_way.meets.heard.room;
-        come = beside.own_way.meets.heard.come;
+        lost = are.own_way.meets.heard.lost;
+        room = are.own_way.meets.heard.room;
+        come = are.own_way.meets.heard.come;
         tells = hears.tells;
+        shown = hears.shown;
       };
     }
       where
@@ -393,59 +448,79 @@ module _ (own other : PairWay) (beside : AreBeside own other)
         left-room true said = refl
         left-room false said = refl
 
-    pub tick-beside : IsWayBeside other (record own { core = now; said = left_untold (tells_of own) own.said })
-    tick-beside = record {
+    -- the way that has told, and made the frame
+    abbrev ticked-way : Option StepNote → WayWalking
+    ticked-way last = record {
+      core = now;
+      said = left_untold (tells_of script own) own.said;
+      lag = own.lag;
+      last = last;
+    }
+
+    pub tick-lives : (last : Option StepNote) →
+        IsShownAs last (note_of (way_of script other) (last_packet (own.core.source.core.ticks + 1))) →
+        WayLives script other beside.core.sink.taken (ticked-way last)
+    tick-lives last noted = record {
+      lag = are.own_way.lag;
       stands = subst (λ n. WayStands leg (packets_in n) now) (sym tick-rows) makes.stands;
-      windows = λ m low. ap (λ (p : Parts). slice_index_or (windows_in p.lines) m []) rest
-          ∙ beside.own_way.windows m low;
-      landed = landing-stays leg (way_counts own) (counts_of now (packets_in now.sink.taken)) own.landing
-          (ap (λ (l : LandedCounts). l.frames) landed) (ap (λ (l : LandedCounts). l.commands) landed)
-          beside.own_way.landed;
-      meets = meets-same other.script other.core.sink.taken own.script own.script own.core.sink.taken
-          now.sink.taken (own.core.source.core.ticks + 1) now.source.core.ticks
-          (left_untold (tells_of own) own.said) (left_untold (tells_of own) own.said) box-left now.source.inbox refl
-          refl at box-is tick-rows meets-after;
+      meets = meets-same script other beside.core.sink.taken own.core.sink.taken now.sink.taken
+          (own.core.source.core.ticks + 1) now.source.core.ticks (left_untold (tells_of script own) own.said)
+          (left_untold (tells_of script own) own.said) box-left now.source.inbox refl at box-is tick-rows
+          meets-after;
+      noted = noted-same leg last last (own.core.source.core.ticks + 1) now.source.core.ticks refl at noted;
     }
 
 -- ---- A tick of both ways.
--- what a way tells, and what is left to tell
-abbrev pub telling_own : PairWay → Option Packet
-telling_own own = told_now (tells_of own) own.said.packets
+-- what a way tells, and a way that has told and made a frame
+abbrev pub telling_own : WayWalking → Option Packet
+telling_own own = told_now (tells_next own.lag own.core.source.core.ticks) own.said.packets
 
-abbrev pub left_own : PairWay → PairWay
-left_own own = record own { said = left_untold (tells_of own) own.said }
+abbrev pub with_frame : WayWalking → Parts → Option StepNote → WayWalking
+with_frame own now last = record {
+  core = now;
+  said = left_untold (tells_next own.lag own.core.source.core.ticks) own.said;
+  lag = own.lag;
+  last = last;
+}
+
+-- its last decision step, once it has made a frame and taken this return cell
+abbrev pub note_after : ℕ → Option BackCell → Option StepNote → Option StepNote
+note_after ticks back last = if ticks % 16 == 8 then Some (record { packet = ticks / 16; back = back }) else last
 
 -- nothing stalls a tick in either way
-pub record AreFree (own other : PairWay) : Type 0 where
-  pub beside : AreBeside own other
-  pub own_free : IsFree (walk_plan (way_of own.script other.script)) own.script.config.lag (way_counts own)
-  pub other_free : IsFree (walk_plan (way_of other.script own.script)) other.script.config.lag (way_counts other)
+pub record AreFree (script other : Script) (own beside : WayWalking) : Type 0 where
+  pub are : LiveBeside script other own beside
+  pub own_free : IsFree (walk_plan (way_of script other)) script.config.lag (way_walked own)
+  pub other_free : IsFree (walk_plan (way_of other script)) other.config.lag (way_walked beside)
+  pub agrees : AgreesAt (way_of script other) own.core.source.core.ticks (windows_in own.core.lines)
 
--- the frame of one way, made of what it was once it had told
-pub record HasTicked (own other : PairWay) (now : Parts) : Type 0 where
-  pub beside : IsWayBeside other (record (left_own own) { core = now })
-  pub rows : now.sink.taken ≡ own.core.sink.taken
-  pub counts : way_counts (record (left_own own) { core = now }) ≡ ticked (way_counts own)
+-- the frame of one way
+pub record HasTicked (script other : Script) (own beside now : WayWalking) : Type 0 where
+  pub lives : WayLives script other beside.core.sink.taken now
+  pub rows : now.core.sink.taken ≡ own.core.sink.taken
+  pub counts : way_walked now ≡ ticked (way_walked own)
 
-module _ (own other : PairWay) (free : AreFree own other) (core : Parts) (same : core ≡ own.core) where
+module _ (script other : Script) (own beside : WayWalking) (free : AreFree script other own beside) (core : Parts)
+    (same : core ≡ own.core) where
   abbrev leg-tick : Leg
-  leg-tick = way_of own.script other.script
+  leg-tick = way_of script other
 
   abbrev backs : ℕ
   backs = packets_in own.core.sink.taken
 
   pub stands-for : StandsForSome core
-  stands-for = (leg-tick, backs, subst (WayStands leg-tick backs) (sym same) free.beside.own_way.stands)
+  stands-for = (leg-tick, backs, subst (WayStands leg-tick backs) (sym same) free.are.own_way.stands)
 
   pub left-for : core.source.core.ticks < core.source.total
   left-for = subst (λ (p : Parts). p.source.core.ticks < p.source.total) (sym same)
-      (ticks-free own other free.beside free.own_free free.other_free)
+      (ticks-free script other own beside free.are free.own_free free.other_free free.agrees)
 
   pub cell-for : missing_from core.source ≡ None
   cell-for = ap (λ (p : Parts). missing_from p.source) same
-      ∙ cell-there own other free.beside free.own_free free.other_free
+      ∙ cell-there script other own beside free.are free.own_free free.other_free free.agrees
 
-  pub has-ticked : (told : Option Packet) (cell : Option BackCell) (now : Parts) → told ≡ telling_own other →
+  pub has-ticked : (told : Option Packet) (cell : Option BackCell) (now : Parts) (last : Option StepNote) →
+      told ≡ telling_own beside →
       ((leg-tick : Leg) (backs : ℕ) → WayStands leg-tick backs core → CanTick leg-tick backs core told cell →
       Makes leg-tick backs Tick core now Yes) →
       cell ≡ cell_for (is_some (needed core.source.core)) core.source.inbox.cells →
@@ -453,68 +528,91 @@ module _ (own other : PairWay) (free : AreFree own other) (core : Parts) (same :
       { cells = rest_for (is_some (needed core.source.core)) core.source.inbox.cells } →
       now.source.core.ticks ≡ core.source.core.ticks + 1 →
       now ≡ record core { source = now.source; sent = now.sent } →
-      now.source.landed ≡ core.source.landed → HasTicked own other now
-  has-ticked told cell now is makes first boxed at rest landed =
+      last ≡ note_after core.source.core.ticks cell own.last →
+      HasTicked script other own beside (with_frame own now last)
+  has-ticked told cell now last is makes first boxed at rest last_is =
+      let told_own = is ∙ ap (λ n. told_now (tells_next n beside.core.source.core.ticks) beside.said.packets)
+      free.are.other_way.lag in
       let first_own = first
       ∙ ap (λ (p : Parts). cell_for (is_some (needed p.source.core)) p.source.inbox.cells) same in
       let boxed_own = boxed ∙ ap (λ (p : Parts). record p.source.inbox
       { cells = rest_for (is_some (needed p.source.core)) p.source.inbox.cells }) same in
       let at_own = at ∙ ap (λ (p : Parts). p.source.core.ticks + 1) same in
       let rest_own = rest ∙ ap (λ (p : Parts). record p { source = now.source; sent = now.sent }) same in
-      let landed_own = landed ∙ ap (λ (p : Parts). p.source.landed) same in
-      let can = can-tick own other free.beside free.own_free free.other_free told cell is first_own in
+      let can = can-tick script other own beside free.are free.own_free free.other_free free.agrees told cell told_own
+      first_own in
+      let noted = note-shown leg-tick own.core.source.core.ticks cell own.last last free.are.own_way.noted
+      (cell-noted script other own beside free.are free.own_free free.other_free free.agrees cell first_own)
+      (last_is ∙ ap (λ (p : Parts). note_after p.source.core.ticks cell own.last) same) in
       let made : Makes leg-tick backs Tick own.core now Yes =
       subst (λ (p : Parts). Makes leg-tick backs Tick p now Yes) same
-      (makes leg-tick backs (subst (WayStands leg-tick backs) (sym same) free.beside.own_way.stands)
+      (makes leg-tick backs (subst (WayStands leg-tick backs) (sym same) free.are.own_way.stands)
       (subst (λ (p : Parts). CanTick leg-tick backs p told cell) (sym same) can)) in
-      record {
-        beside = tick-beside own other free.beside free.own_free free.other_free now Yes made at_own boxed_own
-            rest_own landed_own;
-        rows = tick-rows own other free.beside free.own_free free.other_free now Yes made at_own boxed_own rest_own
-            landed_own;
-        counts = tick-counts own other free.beside free.own_free free.other_free now Yes made at_own boxed_own
-            rest_own landed_own;
-      }
+      subst (λ n. HasTicked script other own beside (record {
+        core = now;
+        said = left_untold (tells_next n own.core.source.core.ticks) own.said;
+        lag = own.lag;
+        last = last;
+      })) (sym free.are.own_way.lag) (record {
+        lives = tick-lives script other own beside free.are free.own_free free.other_free free.agrees now Yes made
+            at_own boxed_own rest_own last noted;
+        rows = tick-rows script other own beside free.are free.own_free free.other_free free.agrees now Yes made
+            at_own boxed_own rest_own;
+        counts = tick-counts script other own beside free.are free.own_free free.other_free free.agrees now Yes made
+            at_own boxed_own rest_own;
+      })
 
 -- ---- of a pair
-module _ (there back : PairWay) (walk : IsPairWalk there back)
-    (none : tick_cause (pair_plan there.script back.script) (pair_counts there back) ≡ None) where
-  own-free : IsFree (walk_plan (way_of back.script there.script)) back.script.config.lag (way_counts back)
-  own-free =
-      let free = both-free (pair_plan there.script back.script) (pair_counts there back) none in
-      subst (λ lag. IsFree (walk_plan (way_of back.script there.script)) lag (way_counts back)) walk.pair.lag free.1
+module _ (one other : Script) (pair : PairWalking) (can : CanTickBoth one other pair) where
+  other-free : IsFree (walk_plan (way_of other one)) other.config.lag (way_walked pair.back)
+  other-free =
+      let free = both-free (pair_plan one other) (walking_counts pair) can.free in
+      subst (λ lag. IsFree (walk_plan (way_of other one)) lag (way_walked pair.back)) can.lives.fits.lag free.1
 
-  pub there-free : AreFree there back
+  pub there-free : AreFree one other pair.there pair.back
   there-free = record {
-    beside = there-beside there back walk;
-    own_free = (both-free (pair_plan there.script back.script) (pair_counts there back) none).0;
-    other_free = own-free;
+    are = there-beside one other pair can.lives;
+    own_free = (both-free (pair_plan one other) (walking_counts pair) can.free).0;
+    other_free = other-free;
+    agrees = can.agrees There;
   }
 
-  pub back-free : AreFree back there
+  pub back-free : AreFree other one pair.back pair.there
   back-free = record {
-    beside = back-beside there back walk;
-    own_free = own-free;
-    other_free = (both-free (pair_plan there.script back.script) (pair_counts there back) none).0;
+    are = back-beside one other pair can.lives;
+    own_free = other-free;
+    other_free = (both-free (pair_plan one other) (walking_counts pair) can.free).0;
+    agrees = can.agrees Back;
   }
 
-  module _ (there_now back_now : Parts) (one : HasTicked there back there_now)
-      (two : HasTicked back there back_now) where
-    pub both-counts : pair_counts (record (left_own there) { core = there_now })
-        (record (left_own back) { core = back_now }) ≡ (tick_by None (pair_counts there back)).counts
+  module _ (now : PairWalking) (first : HasTicked one other pair.there pair.back now.there)
+      (second : HasTicked other one pair.back pair.there now.back) where
+    both-counts : walking_counts now ≡ (tick_by None (walking_counts pair)).counts
     both-counts =
-        ap₂ (λ (s t : Counts). record { there = s; back = t }) one.counts two.counts
+        ap₂ (λ (s t : Counts). record { there = s; back = t }) first.counts second.counts
 
-    pub both-walk : IsPairWalk (record (left_own there) { core = there_now })
-        (record (left_own back) { core = back_now })
-    both-walk = record {
-      pair = walk.pair;
-      walked = subst (IsPairWalked there.script back.script)
-          (ap (λ (found : Option (Way × StallCause)). (tick_by found (pair_counts there back)).counts) none
-          ∙ sym both-counts)
-          (pair-steps (pair_plan there.script back.script) (pair_counts there back) Tick_both walk.walked);
-      there_way = seen-other (record (left_own there) { core = there_now }) back
-          (record (left_own back) { core = back_now }) one.beside refl two.rows;
-      back_way = seen-other (record (left_own back) { core = back_now }) there
-          (record (left_own there) { core = there_now }) two.beside refl one.rows;
+    pub both-tick : GoesOn one other (tick_by None (walking_counts pair)).counts now
+    both-tick = record {
+      lives = record {
+        fits = can.lives.fits;
+        walked = subst (IsPairWalked one other)
+            (ap (λ (found : Option (Way × StallCause)). (tick_by found (walking_counts pair)).counts) can.free
+            ∙ sym both-counts)
+            (pair-steps (pair_plan one other) (walking_counts pair) Tick_both can.lives.walked);
+        there_way = seen-lives one other pair.back.core.sink.taken now.back.core.sink.taken now.there second.rows
+            first.lives;
+        back_way = seen-lives other one pair.there.core.sink.taken now.there.core.sink.taken now.back first.rows
+            second.lives;
+      };
+      counts = both-counts;
     }
+
+-- nothing lands with a frame, and no line has other windows
+pub made-keeps : (own now : WayWalking) (core : Parts) → core ≡ own.core →
+    now.core.source.landed ≡ core.source.landed →
+    now.core ≡ record core { source = now.core.source; sent = now.core.sent } → Keeps own now
+made-keeps own now core same landed rest = record {
+  frames = ap (λ (l : LandedCounts). l.frames) landed ∙ ap (λ (p : Parts). p.source.landed.frames) same;
+  commands = ap (λ (l : LandedCounts). l.commands) landed ∙ ap (λ (p : Parts). p.source.landed.commands) same;
+  windows = ap (λ (p : Parts). windows_in p.lines) rest ∙ ap (λ (p : Parts). windows_in p.lines) same;
+}

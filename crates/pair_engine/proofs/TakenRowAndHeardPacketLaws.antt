@@ -1,6 +1,6 @@
 -- A row of one way that is taken or waits (TakesRow), and what the other way hears of it (Hears, Meets).
 use Rattle.std.proofs.Common.{◌≡◌, ℕ, ◌+◌, ◌-◌, ◌*◌, ◌/◌, ◌%◌, ◌==◌, ◌&&◌, ◌<◌, ◌≤◌, nat_le, nat_lt, true, false, Bool}
-use Rattle.std.proofs.Common.{List, [], ◌∷◌, ◌++◌, length, map, Option, Some, None, option_map, slice_index_or, refl}
+use Rattle.std.proofs.Common.{List, [], ◌∷◌, ◌++◌, length, map, Option, Some, None, option_map, refl}
 use Rattle.std.proofs.Common.{sym, ◌∙◌, ap, subst, arith, inl, inr}
 use Rattle.std.specs.List.{range_with_len}
 use Rattle.std.proofs.lemmas.Bool.{cases_Bool, and_parts, eqb-true, ltb-true, le-leb, le-ltb}
@@ -16,7 +16,6 @@ use Rattle.law_progress.proofs.RoundProgressAndDrainLaws.{Leads-then}
 use Rattle.terminal_sink.specs.declared.sink_core.sink_terminal.TakeAnswer.{TakeAnswer}
 use Rattle.terminal_sink.specs.declared.sink_core.sink_terminal.TakeAnswer.TheVariants.{Taken, Waiting}
 use Rattle.terminal_sink.specs.sink_core.TakenAndGiven.{rows_taken}
-use Rattle.terminal_group.specs.declared.landed_counts.LandedCounts.{LandedCounts}
 use Rattle.terminal_group.specs.ReturnInbox.{Inbox, with_come}
 use Rattle.law_walk.specs.Common.{walk_plan, IsWalked, popped_cells, said_packet, back_cell, delivered_of}
 use Rattle.law_walk.proofs.AcceptedFrameAndDrainedWalkLaws.{counts-within}
@@ -24,16 +23,16 @@ use Rattle.law_walk.proofs.WalkPlanAndPoppedCellLaws.{sound-walks}
 use Rattle.law_pair.specs.Common.{way_of, take_said, take_one}
 use Rattle.law_pair.proofs.PairWayAndPacketLaws.{reads-told}
 use Rattle.law_pair.proofs.NextItemAndOneWayEventLaws.{take-leads}
-use Rattle.walk_engine.specs.Common.{answer_by, GivesRows, Parts, counts_of, line_counts, take_cause, HasLanded}
-use Rattle.walk_engine.specs.Common.{HasWindows, take_moved, said_at, take_by, Takes, windows_in}
+use Rattle.walk_engine.specs.Common.{answer_by, GivesRows, Parts, counts_of, line_counts, take_cause}
+use Rattle.walk_engine.specs.Common.{take_moved, said_at, take_by, Takes, windows_in}
 use Rattle.law_walk.specs.DeliveredFrames.{delivered_since}
 use Rattle.walk_engine.specs.walk_core.WayParts.{WayStands}
-use Rattle.walk_engine.proofs.WayEventAndToldSourceLaws.{landing-stays, stands-back}
-use Rattle.pair_engine.specs.declared.pair_way.PairWay.{PairWay}
-use Rattle.pair_engine.specs.ToldAndHeard.{Said, untold_packets, heard_cells}
-use Rattle.pair_engine.specs.WayCalls.{TakesRow, EndsPacket, Hears}
-use Rattle.pair_engine.specs.Ways.{way_counts, StandsAs, LandedAs, Meets, IsWayBeside, AreBeside}
-use Rattle.pair_engine.proofs.PairEventAndRoundLaws.{meets-same, seen-other}
+use Rattle.walk_engine.proofs.WayEventAndToldSourceLaws.{stands-back}
+use Rattle.pair_engine.specs.LivePairs.{LiveBeside, WayLives, WayWalking, way_walked}
+use Rattle.pair_engine.specs.ToldAndHeard.{IsSaid, Meets, Said, cell_shown, heard_cells, untold_packets}
+use Rattle.pair_engine.specs.WayCalls.{TakesRow, EndsPacket, Hears, Keeps}
+use Rattle.pair_engine.proofs.LiveWayLaws.{meets-same, noted-same, seen-lives}
+use Rattle.pair_engine.proofs.ShownCellLaws.{back-said, shown-same}
 use Rattle.pair_engine.proofs.PairTickAndToldPacketLaws.{counts_with, said-size, heard-size}
 use Rattle.law_walk.proofs.WalkRingAndWaitingTakeLaws as return_laws
 
@@ -150,6 +149,8 @@ heard-quiet script other rows other_rows next ticks said inbox same is =
         come = is.heard.come ∙ ap (λ n. n - script.config.lag) (sym same);
         tells = is.heard.tells ∙ ap (λ n. map told_in (map (back_cell (way_of script other))
             (range_with_len u (n - script.config.lag - u)))) (sym same);
+        shown = is.heard.shown ∙ ap (λ n. map cell_shown (map (back_cell (way_of script other))
+            (range_with_len u (n - script.config.lag - u)))) (sym same);
       };
     }
 
@@ -168,44 +169,43 @@ rows-said script other rows other_rows ticks said now inbox packet low next same
   heard = is.heard;
 }
 
-module _ (own other : PairWay) (beside : AreBeside own other) (row : ℕ) (at_row : row ≡ own.core.sink.taken) where
+module _ (script other : Script) (own beside : WayWalking) (are : LiveBeside script other own beside) (row : ℕ)
+    (at_row : row ≡ own.core.sink.taken) where
   abbrev leg : Leg
-  leg = way_of own.script other.script
+  leg = way_of script other
 
   abbrev lag : ℕ
-  lag = own.script.config.lag
+  lag = script.config.lag
 
   abbrev s : Counts
-  s = way_counts own
+  s = way_walked own
 
-  abbrev is : WayStands (way_of own.script other.script) (packets_in own.core.sink.taken) own.core
-  is = beside.own_way.stands
+  abbrev is : WayStands (way_of script other) (packets_in own.core.sink.taken) own.core
+  is = are.own_way.stands
 
   -- ---- all rows are taken
-  pub done-row : own.script.config.ticks ≤ row →
-      TakesRow own other own other (answer_by (Some Done) None)
+  pub done-row : script.config.ticks ≤ row →
+      TakesRow script other own beside own beside (answer_by (Some Done) None)
   done-row past =
       let step = one-done (walk_plan leg) s (omega (arith, past, at_row)) in
       record {
-        own_script = refl;
-        other_script = refl;
-        own_way = beside.own_way;
-        other_way = beside.other_way;
+        own_way = are.own_way;
+        other_way = are.other_way;
         own_counts = sym (ap (λ (x : Step). x.counts) step);
         other_counts = refl;
         moved = sym (ap (λ (x : Step). answer_by x.cause None) step);
       }
 
-  module _ (low : row < own.script.config.ticks) where
-    pub tries : None ≡ take_cause (way_of own.script other.script).config.ticks (way_counts own)
-    tries = cause-none own.script.config.ticks s refl (omega (arith, low, at_row))
+  module _ (low : row < script.config.ticks) where
+    pub tries : None ≡ take_cause (way_of script other).config.ticks (way_walked own)
+    tries = cause-none script.config.ticks s refl (omega (arith, low, at_row))
 
     -- ---- the direction after it
     module _ (now : Parts) (answer : TakeAnswer)
-        (takes : Takes (way_of own.script other.script) (packets_in own.core.sink.taken) own.core now answer)
+        (takes : Takes (way_of script other) (packets_in own.core.sink.taken) own.core now answer)
         (rest : now ≡ record own.core { lines = now.lines; rows = now.rows; sink = now.sink; got = now.got })
         (damage : windows_in now.lines ≡ windows_in own.core.lines) where
-      abbrev own_now : Said → PairWay
+      abbrev own_now : Said → WayWalking
       own_now said = record own { core = now; said = said }
 
       same-ticks : now.source.core.ticks ≡ own.core.source.core.ticks
@@ -214,30 +214,21 @@ module _ (own other : PairWay) (beside : AreBeside own other) (row : ℕ) (at_ro
       same-inbox : now.source.inbox ≡ own.core.source.inbox
       same-inbox = ap (λ (p : Parts). p.source.inbox) rest
 
-      landed-now : HasLanded (way_of own.script other.script) (counts_of now (packets_in now.sink.taken)) own.landing
-      landed-now =
-          let same : now.source.landed ≡ own.core.source.landed = ap (λ (p : Parts). p.source.landed) rest in
-          landing-stays leg s (counts_of now (packets_in now.sink.taken)) own.landing
-          (ap (λ (l : LandedCounts). l.frames) same) (ap (λ (l : LandedCounts). l.commands) same)
-          beside.own_way.landed
-
-      windows-now : HasWindows own.script.config now.lines
-      windows-now m within = ap (λ windows. slice_index_or windows m []) damage ∙ beside.own_way.windows m within
-
-      inside : own.core.sink.taken < own.script.config.ticks
+      inside : own.core.sink.taken < script.config.ticks
       inside = omega (arith, low, at_row)
 
       now-beside : (said : Said) (rows : ℕ) → now.sink.taken ≡ rows →
-          WayStands (way_of own.script other.script) (packets_in now.sink.taken) now →
-          Meets own.script other.script rows other.core.sink.taken own.core.source.core.ticks said
-          own.core.source.inbox → IsWayBeside other (own_now said)
+          WayStands (way_of script other) (packets_in now.sink.taken) now →
+          Meets script other rows beside.core.sink.taken own.core.source.core.ticks said
+          own.core.source.inbox → WayLives script other beside.core.sink.taken (own_now said)
       now-beside said rows same stands meets = record {
+        lag = are.own_way.lag;
         stands = stands;
-        windows = windows-now;
-        landed = landed-now;
-        meets = meets-same other.script other.core.sink.taken own.script own.script rows now.sink.taken
-            own.core.source.core.ticks now.source.core.ticks said said own.core.source.inbox now.source.inbox refl refl
-            same-ticks same-inbox same meets;
+        meets = meets-same script other beside.core.sink.taken rows now.sink.taken own.core.source.core.ticks
+            now.source.core.ticks said said own.core.source.inbox now.source.inbox refl same-ticks same-inbox same
+            meets;
+        noted = noted-same leg own.last own.last own.core.source.core.ticks now.source.core.ticks refl same-ticks
+            are.own_way.noted;
       }
 
       -- ---- it waits
@@ -246,27 +237,26 @@ module _ (own other : PairWay) (beside : AreBeside own other) (row : ℕ) (at_ro
         rows-same = takes.rows ∙ ap (λ a. own.core.sink.taken + rows_taken a) waits
             ∙ (let z : own.core.sink.taken + 0 ≡ own.core.sink.taken = omega arith in z)
 
-        waiting-is : popped_in (walk_plan (way_of own.script other.script)) (way_counts own) ≡ Some line
+        waiting-is : popped_in (walk_plan (way_of script other)) (way_walked own) ≡ Some line
         waiting-is = by (popped_in (walk_plan leg) s) (sym waits ∙ takes.answers)
           where
             by : (found : Option ℕ) →
-                Waiting line ≡ take_by (way_of own.script other.script) own.core.sink.taken found →
+                Waiting line ≡ take_by (way_of script other) own.core.sink.taken found →
                 found ≡ Some line
             by None same = absurd cc
             by (Some other_line) same = ap Some (let e : other_line ≡ line = cc in e)
 
-        step-is : take_one (walk_plan (way_of own.script other.script)) (way_counts own)
-            ≡ take_row (walk_plan (way_of own.script other.script)) (way_counts own)
+        step-is : take_one (walk_plan (way_of script other)) (way_walked own)
+            ≡ take_row (walk_plan (way_of script other)) (way_walked own)
         step-is = waits-both (walk_plan leg) s line refl inside waiting-is
 
-        pub waits-row : TakesRow own other (own_now own.said) other (answer_by (Some (Stall_waiting line)) None)
+        pub waits-row : TakesRow script other own beside (own_now own.said) beside
+            (answer_by (Some (Stall_waiting line)) None)
         waits-row = record {
-          own_script = refl;
-          other_script = refl;
           own_way = now-beside own.said own.core.sink.taken rows-same
               (subst (λ n. WayStands leg (packets_in n) now) (sym rows-same) takes.makes.stands)
-              beside.own_way.meets;
-          other_way = seen-other other own (own_now own.said) beside.other_way refl rows-same;
+              are.own_way.meets;
+          other_way = seen-lives other script own.core.sink.taken now.sink.taken beside rows-same are.other_way;
           own_counts = ap (λ n. counts_of now (packets_in n)) rows-same ∙ takes.makes.counts
               ∙ sym (ap (λ (x : Step). x.counts) step-is);
           other_counts = refl;
@@ -280,33 +270,33 @@ module _ (own other : PairWay) (beside : AreBeside own other) (row : ℕ) (at_ro
         rows-next = takes.rows ∙ ap (λ a. own.core.sink.taken + rows_taken a) taken
 
         by-waits : (found : Option ℕ) →
-            Taken back ≡ take_by (way_of own.script other.script) own.core.sink.taken found →
-            (found ≡ None) × (back ≡ said_at (way_of own.script other.script) own.core.sink.taken)
+            Taken back ≡ take_by (way_of script other) own.core.sink.taken found →
+            (found ≡ None) × (back ≡ said_at (way_of script other) own.core.sink.taken)
         by-waits None same = (refl, cc)
         by-waits (Some line) same = absurd cc
 
-        found-none : (popped_in (walk_plan (way_of own.script other.script)) (way_counts own) ≡ None)
-            × (back ≡ said_at (way_of own.script other.script) own.core.sink.taken)
+        found-none : (popped_in (walk_plan (way_of script other)) (way_walked own) ≡ None)
+            × (back ≡ said_at (way_of script other) own.core.sink.taken)
         found-none = by-waits (popped_in (walk_plan leg) s) (sym taken ∙ takes.answers)
 
-        pub said-is : back ≡ said_at (way_of own.script other.script) own.core.sink.taken
+        pub said-is : back ≡ said_at (way_of script other) own.core.sink.taken
         said-is = found-none.1
 
-        both : (take_row (walk_plan (way_of own.script other.script)) (way_counts own)
-            ≡ walk_taken (walk_plan (way_of own.script other.script)) (way_counts own))
-            × (take_one (walk_plan (way_of own.script other.script)) (way_counts own)
-            ≡ pair_taken (walk_plan (way_of own.script other.script)) (way_counts own))
+        both : (take_row (walk_plan (way_of script other)) (way_walked own)
+            ≡ walk_taken (walk_plan (way_of script other)) (way_walked own))
+            × (take_one (walk_plan (way_of script other)) (way_walked own)
+            ≡ pair_taken (walk_plan (way_of script other)) (way_walked own))
         both = takes-both (walk_plan leg) s refl inside found-none.0
 
         counts-next : counts_of now (packets_in now.sink.taken)
-            ≡ (take_one (walk_plan (way_of own.script other.script)) (way_counts own)).counts
+            ≡ (take_one (walk_plan (way_of script other)) (way_walked own)).counts
         counts-next =
             ap (λ n. record (counts_of now 0) { backs = packets_in n }) rows-next
             ∙ ap (λ (c : Counts). record c { backs = packets_in (own.core.sink.taken + 1) }) takes.makes.counts
             ∙ ap (λ (x : Step). record x.counts { backs = packets_in (own.core.sink.taken + 1) }) both.0
             ∙ sym (ap (λ (x : Step). x.counts) both.1)
 
-        pub stands-next : WayStands (way_of own.script other.script) (packets_in now.sink.taken) now
+        pub stands-next : WayStands (way_of script other) (packets_in now.sink.taken) now
         stands-next =
             stands-back leg (packets_in own.core.sink.taken) (packets_in now.sink.taken) now now.source.inbox
             takes.makes.stands
@@ -315,7 +305,7 @@ module _ (own other : PairWay) (beside : AreBeside own other) (row : ℕ) (at_ro
             (take-leads (walk_plan leg) s refl).leads))
 
         moved-next : answer_by None None ≡ answer_by
-            (take_one (walk_plan (way_of own.script other.script)) (way_counts own)).cause None
+            (take_one (walk_plan (way_of script other)) (way_walked own)).cause None
         moved-next = sym (ap (λ (x : Step). answer_by x.cause None) both.1)
 
         -- the row ends no packet
@@ -331,20 +321,18 @@ module _ (own other : PairWay) (beside : AreBeside own other) (row : ℕ) (at_ro
           same-packets : packets_in now.sink.taken ≡ packets_in own.core.sink.taken
           same-packets = ap packets_in rows-next ∙ no-packet own.core.sink.taken ends-not
 
-          pub quiet-row : TakesRow own other (own_now own.said) other (answer_by None None)
+          pub quiet-row : TakesRow script other own beside (own_now own.said) beside (answer_by None None)
           quiet-row = record {
-            own_script = refl;
-            other_script = refl;
             own_way = now-beside own.said now.sink.taken refl stands-next
-                (rows-quiet own.script other.script own.core.sink.taken now.sink.taken other.core.sink.taken
-                own.core.source.core.ticks own.said own.core.source.inbox same-packets beside.own_way.meets);
+                (rows-quiet script other own.core.sink.taken now.sink.taken beside.core.sink.taken
+                own.core.source.core.ticks own.said own.core.source.inbox same-packets are.own_way.meets);
             other_way = record {
-              stands = beside.other_way.stands;
-              windows = beside.other_way.windows;
-              landed = beside.other_way.landed;
-              meets = heard-quiet other.script own.script other.core.sink.taken own.core.sink.taken now.sink.taken
-                  other.core.source.core.ticks other.said other.core.source.inbox same-packets
-                  beside.other_way.meets;
+              lag = are.other_way.lag;
+              stands = are.other_way.stands;
+              meets = heard-quiet other script beside.core.sink.taken own.core.sink.taken now.sink.taken
+                  beside.core.source.core.ticks beside.said beside.core.source.inbox same-packets
+                  are.other_way.meets;
+              noted = are.other_way.noted;
             };
             own_counts = counts-next;
             other_counts = refl;
@@ -360,7 +348,7 @@ module _ (own other : PairWay) (beside : AreBeside own other) (row : ℕ) (at_ro
                 | inr e ↦ absurd (let f : Some packet ≡ None = sym some ∙ said-is ∙ rw e refl in cc)
               ]
 
-          packet-is : packet ≡ said_packet (way_of own.script other.script) (packets_in own.core.sink.taken)
+          packet-is : packet ≡ said_packet (way_of script other) (packets_in own.core.sink.taken)
           packet-is =
               let f : Some packet ≡ Some (said_packet leg (packets_in own.core.sink.taken)) =
               sym some ∙ said-is ∙ rw ends-packet refl in
@@ -368,232 +356,218 @@ module _ (own other : PairWay) (beside : AreBeside own other) (row : ℕ) (at_ro
 
           pub say-room : length own.said.packets < own.said.room
           say-room =
-              let size = ap length beside.own_way.meets.packets
+              let size = ap length are.own_way.meets.packets
               ∙ said-size leg lag own.core.source.core.ticks own.core.sink.taken in
-              let room = beside.own_way.meets.room in
+              let room = are.own_way.meets.room in
               let (next, at) = one-packet own.core.sink.taken ends-packet in
               let can = sound-walks leg is.sound in
               let (rows, ticks) = counts-within leg (counts_of now (packets_in now.sink.taken)) can
               stands-next.walked in
               let more = rows-next in
               let same = same-ticks in
-              let some_lag = beside.pair.there_way.valid.sound.network.lag.0 in
+              let some_lag = are.pair.there_way.valid.sound.network.lag.0 in
               omega (arith, size, room, at, rows, more, same, some_lag)
 
           -- once it was said
           module _ (said : Said) (says : said.packets ≡ own.said.packets ++ packet ∷ [])
               (room : said.room ≡ own.said.room) where
-            pub said-ends : EndsPacket own (own_now said) other row
+            pub said-ends : EndsPacket script other own (own_now said) beside row
             said-ends = record {
-              beside = beside;
-              script = refl;
+              are = are;
+              lag = are.own_way.lag;
               stands = stands-next;
-              landed = landed-now;
               ticks = same-ticks;
               was_row = sym at_row;
               row_is = rows-next ∙ ap (λ n. n + 1) (sym at_row);
               ends = subst (λ n. (nat_lt 22 n && n % 16 == 7) ≡ true) (sym at_row) ends-packet;
             }
 
-            own-said : IsWayBeside other (own_now said)
+            own-said : WayLives script other beside.core.sink.taken (own_now said)
             own-said = now-beside said (own.core.sink.taken + 1) rows-next stands-next
-                (rows-said own.script other.script own.core.sink.taken other.core.sink.taken
-                own.core.source.core.ticks own.said said own.core.source.inbox packet beside.told
-                (one-packet own.core.sink.taken ends-packet).0 packet-is says room beside.own_way.meets)
+                (rows-said script other own.core.sink.taken beside.core.sink.taken
+                own.core.source.core.ticks own.said said own.core.source.inbox packet are.told
+                (one-packet own.core.sink.taken ends-packet).0 packet-is says room are.own_way.meets)
 
-            pub said-row : (other_now : PairWay) → Hears (own_now said) other other_now →
-                TakesRow own other (own_now said) other_now (answer_by None None)
-            said-row other_now hears = record {
-              own_script = refl;
-              other_script = hears.script;
-              own_way = seen-other (own_now said) other other_now own-said hears.script
-                  (ap (λ (s : Counts). s.rows) hears.counts);
-              other_way = hears.beside;
+            pub said-row : (beside_now : WayWalking) → Hears script other (own_now said) beside beside_now →
+                TakesRow script other own beside (own_now said) beside_now (answer_by None None)
+            said-row beside_now hears = record {
+              own_way = seen-lives script other beside.core.sink.taken beside_now.core.sink.taken (own_now said)
+                  (ap (λ (s : Counts). s.rows) hears.counts) own-said;
+              other_way = hears.lives;
               own_counts = counts-next;
               other_counts = hears.counts;
               moved = moved-next;
             }
 
 -- ---- the other way hears what the packets tell
-module _ (was own other : PairWay) (row : ℕ) (is : EndsPacket was own other row) where
+module _ (script other : Script) (was own beside : WayWalking) (row : ℕ)
+    (is : EndsPacket script other was own beside row) where
   abbrev was_leg : Leg
-  was_leg = way_of was.script other.script
+  was_leg = way_of script other
 
   abbrev other_leg : Leg
-  other_leg = way_of other.script was.script
+  other_leg = way_of other script
 
   packet-row : (packets_in (row + 1) ≡ packets_in row + 1) × (16 * packets_in row + 23 ≡ row)
   packet-row = one-packet row is.ends
 
-  low-row : (row + 1 ≤ other.core.source.core.ticks) × (other.core.source.core.ticks ≤ other.script.config.ticks)
+  low-row : (row + 1 ≤ beside.core.source.core.ticks) × (beside.core.source.core.ticks ≤ other.config.ticks)
   low-row =
       let (rows, ticks) =
-      counts-within was_leg (way_counts own) (sound-walks was_leg is.stands.sound) is.stands.walked in
+      counts-within was_leg (way_walked own) (sound-walks was_leg is.stands.sound) is.stands.walked in
       let more = is.row_is in
-      let other_is = is.beside.other_way.stands in
-      let (other_rows, other_ticks) = counts-within other_leg (way_counts other) (sound-walks other_leg other_is.sound)
+      let other_is = is.are.other_way.stands in
+      let (other_rows, other_ticks) = counts-within other_leg (way_walked beside) (sound-walks other_leg other_is.sound)
       other_is.walked in
-      let together = is.beside.together in
+      let together = is.are.together in
       let same = is.ticks in
       (omega (arith, rows, more, together, same), other_ticks)
 
   -- nothing is heard yet: the first packets tell none
-  early-heard : row < 16 * was.script.config.lag + 23 →
-      (was.script.config.lag ≡ other.script.config.lag) → packets_in row + 1 ≤ was.script.config.lag
+  early-heard : row < 16 * script.config.lag + 23 →
+      (script.config.lag ≡ other.config.lag) → packets_in row + 1 ≤ script.config.lag
   early-heard low same = let at = packet-row.1 in omega (arith, low, at)
 
-  beside-own : (core : Parts) (inbox : Inbox) → HasWindows other.script.config core.lines →
-      StandsAs (way_of other.script was.script) (record other { core = core }) →
-      LandedAs (way_of other.script was.script) (record other { core = core }) →
-      Meets other.script was.script core.sink.taken (row + 1) core.source.core.ticks other.said core.source.inbox →
-      IsWayBeside own (record other { core = core })
-  beside-own core inbox windows stands landed meets = record {
-    windows = windows;
-    stands = subst (λ (x : Script). StandsAs (way_of other.script x)
-        (record other { core = core })) (sym is.script) stands;
-    landed = subst (λ (x : Script). LandedAs (way_of other.script x) (record other { core = core })) (sym is.script)
-        landed;
-    meets = subst (λ n. Meets other.script own.script core.sink.taken n core.source.core.ticks other.said
-        core.source.inbox) (sym is.row_is)
-        (subst (λ (x : Script). Meets other.script x core.sink.taken (row + 1) core.source.core.ticks other.said
-        core.source.inbox) (sym is.script) meets);
+  beside-own : (core : Parts) → WayStands (way_of other script) (packets_in core.sink.taken) core →
+      Meets other script core.sink.taken (row + 1) core.source.core.ticks beside.said core.source.inbox →
+      core.source.core.ticks ≡ beside.core.source.core.ticks →
+      WayLives other script own.core.sink.taken (record beside { core = core })
+  beside-own core stands meets at = record {
+    lag = is.are.other_way.lag;
+    stands = stands;
+    meets = subst (λ n. Meets other script core.sink.taken n core.source.core.ticks beside.said core.source.inbox)
+        (sym is.row_is) meets;
+    noted = noted-same other_leg beside.last beside.last beside.core.source.core.ticks core.source.core.ticks refl at
+        is.are.other_way.noted;
   }
 
-  was-meets : Meets other.script was.script other.core.sink.taken row other.core.source.core.ticks other.said
-      other.core.source.inbox
-  was-meets = subst (λ n. Meets other.script was.script other.core.sink.taken n other.core.source.core.ticks other.said
-      other.core.source.inbox) is.was_row is.beside.other_way.meets
+  was-meets : Meets other script beside.core.sink.taken row beside.core.source.core.ticks beside.said
+      beside.core.source.inbox
+  was-meets = subst (λ n. Meets other script beside.core.sink.taken n beside.core.source.core.ticks beside.said
+      beside.core.source.inbox) is.was_row is.are.other_way.meets
 
-  pub hears-early : row < 16 * own.script.config.lag + 23 → Hears own other other
+  pub hears-early : row < 16 * script.config.lag + 23 → Hears script other own beside beside
   hears-early low =
-      let same_own : own.script.config.lag ≡ was.script.config.lag = ap (λ (x : Script). x.config.lag) is.script in
-      let same = is.beside.pair.lag in
-      let few = early-heard (omega (arith, low, same_own)) same in
+      let same = is.are.pair.lag in
+      let few = early-heard low same in
       let next = packet-row.0 in
-      let none : packets_in (row + 1) - other.script.config.lag ≡ packets_in row - other.script.config.lag =
+      let none : packets_in (row + 1) - other.config.lag ≡ packets_in row - other.config.lag =
       omega (arith, few, next, same) in
-      let u = used_in (2 * other.script.config.lag) other.core.source.core.ticks in
+      let u = used_in (2 * other.config.lag) beside.core.source.core.ticks in
       record {
-        script = refl;
         counts = refl;
-        beside = beside-own other.core other.core.source.inbox is.beside.other_way.windows
-            is.beside.other_way.stands
-            is.beside.other_way.landed (record {
-              packets = was-meets.packets;
-              room = was-meets.room;
-              heard = record {
-                lost = was-meets.heard.lost;
-                room = was-meets.heard.room;
-                come = was-meets.heard.come ∙ sym none;
-                tells = was-meets.heard.tells ∙ ap (λ n. map told_in (map (back_cell other_leg)
-                    (range_with_len u (n - u)))) (sym none);
-              };
-            });
+        lives = beside-own beside.core is.are.other_way.stands (record {
+          packets = was-meets.packets;
+          room = was-meets.room;
+          heard = record {
+            lost = was-meets.heard.lost;
+            room = was-meets.heard.room;
+            come = was-meets.heard.come ∙ sym none;
+            tells = was-meets.heard.tells ∙ ap (λ n. map told_in (map (back_cell other_leg)
+                (range_with_len u (n - u)))) (sym none);
+            shown = was-meets.heard.shown ∙ ap (λ n. map cell_shown (map (back_cell other_leg)
+                (range_with_len u (n - u)))) (sym none);
+          };
+        }) refl;
       }
 
-  module _ (late : 16 * own.script.config.lag + 23 ≤ row) where
+  module _ (late : 16 * script.config.lag + 23 ≤ row) where
     abbrev k : ℕ
-    k = packets_in row - other.script.config.lag
+    k = packets_in row - other.config.lag
 
-    same-own : own.script.config.lag ≡ was.script.config.lag
-    same-own = ap (λ (x : Script). x.config.lag) is.script
-
-    k-is : (packets_in row ≡ packets_in row - other.script.config.lag + was.script.config.lag)
-        × (packets_in (row + 1) - other.script.config.lag ≡ packets_in row - other.script.config.lag + 1)
+    k-is : (packets_in row ≡ packets_in row - other.config.lag + script.config.lag)
+        × (packets_in (row + 1) - other.config.lag ≡ packets_in row - other.config.lag + 1)
     k-is =
         let (next, at) = packet-row in
-        let same = is.beside.pair.lag in
-        let own_lag = same-own in
+        let same = is.are.pair.lag in
         let high = late in
-        (omega (arith, next, at, same, own_lag, high), omega (arith, next, at, same, own_lag, high))
+        (omega (arith, next, at, same, high), omega (arith, next, at, same, high))
 
-    used-low : used_in (2 * other.script.config.lag) other.core.source.core.ticks
-        ≤ packets_in row - other.script.config.lag
+    used-low : used_in (2 * other.config.lag) beside.core.source.core.ticks
+        ≤ packets_in row - other.config.lag
     used-low =
-        let told = subst (λ n. used_in was.script.config.lag was.core.source.core.ticks ≤ packets_in n) is.was_row
-        is.beside.told in
-        let together = is.beside.together in
-        let same = is.beside.pair.lag in
+        let told = subst (λ n. used_in script.config.lag was.core.source.core.ticks ≤ packets_in n) is.was_row
+        is.are.told in
+        let together = is.are.together in
+        let same = is.are.pair.lag in
         omega (arith, told, together, same)
 
-    pub put-room : length other.core.source.inbox.cells < other.core.source.inbox.room
+    pub put-room : length beside.core.source.inbox.cells < beside.core.source.inbox.room
     put-room =
-        let size = heard-size other_leg other.script.config.lag other.core.source.core.ticks row
-        other.core.source.inbox.cells was-meets.heard.tells in
+        let size = heard-size other_leg other.config.lag beside.core.source.core.ticks row
+        beside.core.source.inbox.cells was-meets.heard.tells in
         let room = was-meets.heard.room in
         let (low, high) = low-row in
         let (next, at) = packet-row in
         omega (arith, size, room, low, high, at)
 
-    pub put-few : other.core.source.inbox.come < 4294967295
+    pub put-few : beside.core.source.inbox.come < 4294967295
     put-few =
         let come = was-meets.heard.come in
         let (low, high) = low-row in
-        let ticks = is.beside.other_way.stands.sound.network.ticks.1 in
+        let ticks = is.are.other_way.stands.sound.network.ticks.1 in
         omega (arith, come, low, high, ticks)
 
     -- the cell is the session's
     cell-is : (cell : BackCell) (row_read : List (Option Packet)) →
-        row_read ≡ governing (popped_cells (way_of was.script other.script) (map line_counts own.core.lines))
+        row_read ≡ governing (popped_cells (way_of script other) (map line_counts own.core.lines))
         own.core.sink.taken →
         told_in cell ≡ option_map told_by (leader row_read) →
-        told_in cell ≡ told_in (back_cell (way_of other.script was.script) (packets_in row - other.script.config.lag))
+        told_in cell ≡ told_in (back_cell (way_of other script) (packets_in row - other.config.lag))
     cell-is cell row_read reads told =
         let cells = popped_cells was_leg (map line_counts own.core.lines) in
         let (next, at) = packet-row in
         let (low, high) = low-row in
         let (whole, more) = k-is in
-        let same = is.beside.pair.lag in
-        let ends : 16 * k + 23 < other.script.config.ticks = omega (arith, at, low, high) in
+        let same = is.are.pair.lag in
+        let ends : 16 * k + 23 < other.config.ticks = omega (arith, at, low, high) in
         let past : nat_lt (row + 1) 24 ≡ false = le-ltb (row + 1) 24 (omega (arith, at)) in
-        let quotient : (row + 1 - 24) / 16 ≡ k + was.script.config.lag = omega (arith, at, whole) in
-        let row_is : governing cells own.core.sink.taken ≡ read_packets cells (k + was.script.config.lag) =
+        let quotient : (row + 1 - 24) / 16 ≡ k + script.config.lag = omega (arith, at, whole) in
+        let row_is : governing cells own.core.sink.taken ≡ read_packets cells (k + script.config.lag) =
         ap (governing cells) is.row_is ∙ rw past (ap (read_packets cells) quotient) in
         let own_row = is.row_is in
         told ∙ ap (λ (r : List (Option Packet)). option_map told_by (leader r)) (reads ∙ row_is)
-        ∙ reads-told other.script was.script (way_counts own) k is.beside.pair.there_way is.stands.walked
+        ∙ reads-told other script (way_walked own) k is.are.pair.there_way is.stands.walked
         (omega (arith, at, low, high))
         (omega (arith, at, whole, own_row))
-        ∙ sym (return_laws.cell-told other_leg (sound-walks other_leg is.beside.other_way.stands.sound) k ends)
+        ∙ sym (return_laws.cell-told other_leg (sound-walks other_leg is.are.other_way.stands.sound) k ends)
 
     box : BackCell → Inbox
-    box cell = with_come other.core.source.inbox cell
+    box cell = with_come beside.core.source.inbox cell
 
     come-in : (inbox : Inbox) (cell : BackCell) → inbox.lost ≡ [] →
         with_come inbox cell ≡ record inbox { cells = inbox.cells ++ cell ∷ []; come = inbox.come + 1 }
     come-in inbox cell none = rw none refl
 
-    pub hears-late : (cell : BackCell) (row_read : List (Option Packet)) (now : Parts) →
-        row_read ≡ governing (popped_cells (way_of was.script other.script) (map line_counts own.core.lines))
+    -- and the same is shown of both
+    shown-is : (cell : BackCell) → IsSaid cell →
+        told_in cell ≡ told_in (back_cell (way_of other script) (packets_in row - other.config.lag)) →
+        cell_shown cell ≡ cell_shown (back_cell (way_of other script) (packets_in row - other.config.lag))
+    shown-is cell said same = shown-same cell (back_cell other_leg k) said (back-said other_leg k) same
+
+    pub hears-late : (cell : BackCell) (row_read : List (Option Packet)) (now : Parts) → IsSaid cell →
+        row_read ≡ governing (popped_cells (way_of script other) (map line_counts own.core.lines))
         own.core.sink.taken →
         told_in cell ≡ option_map told_by (leader row_read) →
-        now ≡ record other.core
-        { source = record other.core.source { inbox = with_come other.core.source.inbox cell } } →
-        Hears own other (record other { core = now })
-    hears-late cell row_read now reads told put =
-        let other_lag : ℕ = other.script.config.lag in
-        let ticks : ℕ = other.core.source.core.ticks in
-        let inbox : Inbox = record other.core.source.inbox
-        { cells = other.core.source.inbox.cells ++ cell ∷ []; come = other.core.source.inbox.come + 1 } in
-        let inbox_is = come-in other.core.source.inbox cell was-meets.heard.lost in
-        let core : Parts = record other.core { source = record other.core.source { inbox = inbox } } in
+        now ≡ record beside.core
+        { source = record beside.core.source { inbox = with_come beside.core.source.inbox cell } } →
+        Hears script other own beside (record beside { core = now })
+    hears-late cell row_read now said reads told put =
+        let other_lag : ℕ = other.config.lag in
+        let ticks : ℕ = beside.core.source.core.ticks in
+        let inbox : Inbox = record beside.core.source.inbox
+        { cells = beside.core.source.inbox.cells ++ cell ∷ []; come = beside.core.source.inbox.come + 1 } in
+        let inbox_is = come-in beside.core.source.inbox cell was-meets.heard.lost in
+        let core : Parts = record beside.core { source = record beside.core.source { inbox = inbox } } in
         let now_is : now ≡ core =
-        put ∙ ap (λ (i : Inbox). record other.core { source = record other.core.source { inbox = i } }) inbox_is in
+        put ∙ ap (λ (i : Inbox). record beside.core { source = record beside.core.source { inbox = i } }) inbox_is in
         let (whole, more) = k-is in
-        subst (λ (p : Parts). Hears own other (record other { core = p }))
+        subst (λ (p : Parts). Hears script other own beside (record beside { core = p }))
         (sym now_is) (record {
-          script = refl;
           counts = refl;
-          beside = beside-own core inbox is.beside.other_way.windows
-              (stands-back other_leg (packets_in other.core.sink.taken) (packets_in other.core.sink.taken) other.core
-              inbox is.beside.other_way.stands is.beside.other_way.stands.walked)
-              (let has = is.beside.other_way.landed in record {
-                items = has.items;
-                lines = has.lines;
-                frames = has.frames;
-                commands = has.commands;
-                refusals = has.refusals;
-              })
+          lives = beside-own core
+              (stands-back other_leg (packets_in beside.core.sink.taken) (packets_in beside.core.sink.taken) beside.core
+              inbox is.are.other_way.stands is.are.other_way.stands.walked)
               (record {
                 packets = was-meets.packets;
                 room = was-meets.room;
@@ -601,7 +575,7 @@ module _ (was own other : PairWay) (row : ℕ) (is : EndsPacket was own other ro
                   lost = was-meets.heard.lost;
                   room = was-meets.heard.room;
                   come = ap (λ n. n + 1) was-meets.heard.come ∙ sym more;
-                  tells = map-append told_in other.core.source.inbox.cells (cell ∷ [])
+                  tells = map-append told_in beside.core.source.inbox.cells (cell ∷ [])
                       ∙ ap (λ told. told ++ told_in cell ∷ []) was-meets.heard.tells
                       ∙ ap (λ told. map told_in (heard_cells other_leg other_lag ticks row) ++ told ∷ [])
                       (cell-is cell row_read reads told)
@@ -610,6 +584,27 @@ module _ (was own other : PairWay) (row : ℕ) (is : EndsPacket was own other ro
                       ∙ ap (map told_in) (sym (return_laws.inbox-comes other_leg (counts_with ticks row k) used-low))
                       ∙ ap (λ n. map told_in (map (back_cell other_leg)
                       (range_with_len (used_in (2 * other_lag) ticks) (n - used_in (2 * other_lag) ticks)))) (sym more);
+                  shown = map-append cell_shown beside.core.source.inbox.cells (cell ∷ [])
+                      ∙ ap (λ shown. shown ++ cell_shown cell ∷ []) was-meets.heard.shown
+                      ∙ ap (λ shown. map cell_shown (heard_cells other_leg other_lag ticks row) ++ shown ∷ [])
+                      (shown-is cell said (cell-is cell row_read reads told))
+                      ∙ sym (map-append cell_shown (heard_cells other_leg other_lag ticks row)
+                      (back_cell other_leg k ∷ []))
+                      ∙ ap (map cell_shown)
+                      (sym (return_laws.inbox-comes other_leg (counts_with ticks row k) used-low))
+                      ∙ ap (λ n. map cell_shown (map (back_cell other_leg)
+                      (range_with_len (used_in (2 * other_lag) ticks) (n - used_in (2 * other_lag) ticks)))) (sym more);
                 };
-              });
+              }) refl;
         })
+
+-- nothing lands with a row, and no line has other windows
+pub taken-keeps : (own now : WayWalking) →
+    now.core
+    ≡ record own.core { lines = now.core.lines; rows = now.core.rows; sink = now.core.sink; got = now.core.got } →
+    windows_in now.core.lines ≡ windows_in own.core.lines → Keeps own now
+taken-keeps own now rest damage = record {
+  frames = ap (λ (p : Parts). p.source.landed.frames) rest;
+  commands = ap (λ (p : Parts). p.source.landed.commands) rest;
+  windows = damage;
+}

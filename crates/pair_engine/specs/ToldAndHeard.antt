@@ -1,10 +1,13 @@
 -- What one way of a pair has to tell in the other, and what its source has heard there.
 use Rattle.std.specs.Prelude.{◌≡◌, ℕ, ◌+◌, ◌-◌, ◌*◌, ◌%◌, ◌==◌, ◌&&◌, nat_le, if◌then◌else◌, Bool, List, [], map}
-use Rattle.std.specs.Prelude.{drop, slice_get, Option, None}
+use Rattle.std.specs.Prelude.{drop, slice_get, slice_index_or, Option, Some, None, IfSome}
 use Rattle.std.specs.List.{range_with_len}
-use Rattle.law_model.specs.Common.{BackCell, Leg, told_in, used_in}
+use Rattle.law_model.specs.Common.{BackCell, IsPacket, Leg, packet_nibbles, told_in, used_in}
 use Rattle.law_model.specs.declared.control_packet.Packet.{Packet}
+use Rattle.member_cells.specs.declared.containers_and_cells.BackCell.TheVariants.{Packet as Nibbles, Lost}
+use Rattle.law_model.specs.declared.script_types.Script.{Script}
 use Rattle.law_model.specs.session.Scenario.{packets_in}
+use Rattle.law_pair.specs.Common.{way_of}
 use Rattle.law_walk.specs.Common.{said_packet, back_cell}
 use Rattle.terminal_group.specs.ReturnInbox.{Inbox}
 
@@ -42,9 +45,41 @@ heard_cells leg lag ticks rows =
     map (back_cell leg)
     (range_with_len (used_in leg.config.lag ticks) (heard_in lag rows - used_in leg.config.lag ticks))
 
--- an inbox holds cells that tell what these do
+-- a cell for a return packet that was read, or for none
+abbrev pub cell_with : Option Packet → BackCell
+cell_with None = Lost
+cell_with (Some packet) = Nibbles (packet_nibbles packet)
+
+-- it is one
+abbrev pub IsSaid : BackCell → Type 0
+IsSaid cell = (found : Option Packet) × IfSome found IsPacket × (cell ≡ cell_with found)
+
+-- what is shown of a cell that isn't lost: the two digits of its status octet, and its RS-Ack
+pub record CellShown : Type 0 where
+  pub high : ℕ
+  pub low : ℕ
+  pub ack : ℕ
+
+abbrev pub cell_shown : BackCell → Option CellShown
+cell_shown Lost = None
+cell_shown (Nibbles nibbles) = Some (record {
+  high = slice_index_or nibbles 0 0;
+  low = slice_index_or nibbles 1 0;
+  ack = slice_index_or nibbles 2 0 % 2;
+})
+
+-- an inbox holds cells that tell what these do, and of which the same is shown
 pub record HasHeard (leg : Leg) (lag ticks rows : ℕ) (inbox : Inbox) : Type 0 where
   pub lost : inbox.lost ≡ []
   pub room : inbox.room ≡ leg.config.lag + 1
   pub come : inbox.come ≡ heard_in lag rows
   pub tells : map told_in inbox.cells ≡ map told_in (heard_cells leg lag ticks rows)
+  pub shown : map cell_shown inbox.cells ≡ map cell_shown (heard_cells leg lag ticks rows)
+
+-- ---- both
+-- what goes to the other way and comes from it, after some ticks and rows, and some rows of the other: what was said
+-- and waits to be told there, and what the source heard there
+pub record Meets (script other : Script) (rows other_rows ticks : ℕ) (said : Said) (inbox : Inbox) : Type 0 where
+  pub packets : said.packets ≡ untold_packets (way_of script other) script.config.lag ticks rows
+  pub room : said.room ≡ script.config.lag
+  pub heard : HasHeard (way_of script other) script.config.lag ticks other_rows inbox

@@ -89,8 +89,8 @@ impl Pair {
         ensures fits { IsPair self.now.there self.now.back }
         ensures walked { IsPairWalked self.now.there self.now.back self.now.counts }
     {
-        self.there.core.taken() >= self.there.script.config.ticks
-            && self.back.core.taken() >= self.back.script.config.ticks
+        self.there.live.core.taken() >= self.there.script.config.ticks
+            && self.back.live.core.taken() >= self.back.script.config.ticks
     }
 
     /// Makes a round but for its rows: lands items of each way until one stalls, and tries a tick and a carry
@@ -141,8 +141,8 @@ impl Pair {
         ensures { result ≡ totals_of (leg_on self.now way) (counts_on self.now.counts way) }
     {
         match way {
-            Way::There => self.there.core.totals(),
-            Way::Back => self.back.core.totals(),
+            Way::There => self.there.live.core.totals(),
+            Way::Back => self.back.live.core.totals(),
         }
     }
 
@@ -239,7 +239,7 @@ impl Pair {
         match tick_stall(&self.there, &self.back) {
             Some((way, cause)) => PairMoved::Stalled(way, cause),
             None => {
-                tick_both(&mut self.there, &mut self.back);
+                tick_both(&mut self.there.live, &mut self.back.live);
                 PairMoved::Yes
             }
         }
@@ -266,8 +266,14 @@ impl Pair {
         ensures gives_back { GivesWay G.stands_for back.old back.new self.old self.new BACK }
     {
         match way {
-            Way::There => moved_on(way, take_way_row(&mut self.there, &mut self.back, there)),
-            Way::Back => moved_on(way, take_way_row(&mut self.back, &mut self.there, back)),
+            Way::There => moved_on(
+                way,
+                take_way_row(&mut self.there.live, &mut self.back.live, there),
+            ),
+            Way::Back => moved_on(
+                way,
+                take_way_row(&mut self.back.live, &mut self.there.live, back),
+            ),
         }
     }
 }

@@ -1,25 +1,23 @@
-//! One way of a pair: its direction with its script, and what was said of it.
+//! One way of a pair: its script, what of it has landed, and its direction.
 
-ghost use Rattle.std.specs.Prelude.{◌≡◌, ◌<◌, ◌≤◌, [], None, IfOk};
+ghost use Rattle.std.specs.Prelude.{◌≡◌, ◌<◌, None, IfOk};
 ghost use Rattle.law_model.specs.Common.{carry};
 ghost use Rattle.law_model.specs.declared.script_types.Script.{Script};
-ghost use Rattle.law_pair.specs.Common.{IsWay, way_of, land_item, done_at, held_at, full_at, missing_at};
+ghost use Rattle.law_pair.specs.Common.{IsWay, way_of, land_item, done_at, held_at};
 ghost use Rattle.law_walk.specs.Common.{walk_plan};
 ghost use Rattle.terminal_group.specs.Item.{bare_items};
 ghost use Rattle.terminal_group.specs.Landed.{none_landed};
-ghost use Rattle.walk_engine.specs.Common.{answer_by, StandsForSome};
+ghost use Rattle.walk_engine.specs.Common.{answer_by};
 ghost use Rattle.pair_engine.specs.PairAfterEvent.{next_refusal};
-ghost use Rattle.pair_engine.specs.ToldAndHeard.{tells_next, told_now, left_untold};
 ghost use Rattle.pair_engine.specs.WayCalls.{Goes, IsQuiet};
-ghost use Rattle.pair_engine.specs.Ways.{StandsAs, LandedAs, way_counts, IsNewCore, IsNewWay};
+ghost use Rattle.pair_engine.specs.Ways.{StandsAs, LandedAs, way_counts, walking_of, IsNewLive, IsNewWay};
 
+use crate::live_way::LiveWay;
 use crate::next_items::{landed, next_item};
-use crate::said_packets::SaidRing;
 use law_model::{FrameRoom, Script, StallCause};
-use member_rows::lcas_packet::Packet;
 use std::alloc::{AllocError, Global};
 use terminal_group::{Landing, lent_item};
-use walk_engine::walk_core::{Moved, WayCore};
+use walk_engine::walk_core::Moved;
 
 /// One way of a pair.
 pub(crate) struct PairWay {
@@ -29,10 +27,8 @@ pub(crate) struct PairWay {
     pub(crate) landing: Landing,
     /// A frame that is drawn is lent from here.
     room: FrameRoom,
-    /// Its direction.
-    pub(crate) core: WayCore,
-    /// The return packets that its sink has said and that no packet of the other way has told.
-    pub(crate) said: SaidRing,
+    /// Its direction, and what was said of it.
+    pub(crate) live: LiveWay,
 }
 
 /// A call of its own, so that a function which drops one doesn't go through its parts.
@@ -42,8 +38,7 @@ impl Drop for PairWay {
             script: _,
             landing: _,
             room: _,
-            core: _,
-            said: _,
+            live: _,
         } = self;
     }
 }
@@ -54,14 +49,13 @@ impl PairWay {
         requires { IsWay script }
         ensures { IfOk result (λ own. IsNewWay script own) }
     {
-        let (landing, core, said) = open_parts(alloc, &mut script)?;
+        let (landing, live) = open_parts(alloc, &mut script)?;
         let room = FrameRoom::new(alloc)?;
         Ok(PairWay {
             script,
             landing,
             room,
-            core,
-            said,
+            live,
         })
     }
 
@@ -79,11 +73,11 @@ impl PairWay {
         let Some(next) = next_item(&self.landing) else {
             return Moved::Stalled(StallCause::Done);
         };
-        if self.core.ticks() < next.due {
+        if self.live.core.ticks() < next.due {
             return Moved::Stalled(StallCause::NotDue { due: next.due });
         }
         let lent = self.script.items.lend(next.number, &mut self.room);
-        let why = self.core.land(lent_item(lent, &self.room));
+        let why = self.live.core.land(lent_item(lent, &self.room));
         self.landing.land(next.client, next.number, why);
         landed(why)
     }
@@ -99,7 +93,7 @@ impl PairWay {
             None result }
         ensures quiet { IsQuiet self.old self.new }
     {
-        carried(self.core.carry(line))
+        carried(self.live.core.carry(line))
     }
 
     /// All its ticks are made.
@@ -107,7 +101,7 @@ impl PairWay {
         ensures { (other : Script) → result
             ≡ done_at (walk_plan (way_of self.now.script other)) (way_counts self.now) }
     {
-        if self.core.ticks() >= self.script.config.ticks {
+        if self.live.core.ticks() >= self.script.config.ticks {
             Some(StallCause::Done)
         } else {
             None
@@ -119,66 +113,11 @@ impl PairWay {
         ensures { (other : Script) → LandedAs (way_of self.now.script other) self.now → result
             ≡ held_at (walk_plan (way_of self.now.script other)) (way_counts self.now) }
     {
-        match self.landing.held(self.core.ticks()) {
+        match self.landing.held(self.live.core.ticks()) {
             Some(item) => Some(StallCause::Held { item }),
             None => None,
         }
     }
-
-    /// The send ring of a line is full.
-    pub(crate) fn full(&self) -> Option<StallCause>
-        requires { StandsForSome self.now.core }
-        ensures { (other : Script) → StandsAs (way_of self.now.script other) self.now → result
-            ≡ full_at (walk_plan (way_of self.now.script other)) (way_counts self.now) }
-    {
-        match self.core.first_full() {
-            Some(line) => Some(StallCause::TxFull { line }),
-            None => None,
-        }
-    }
-
-    /// The return packet hasn't been said that the other way's next packet is to tell.
-    pub(crate) fn unsaid(&self) -> Option<StallCause>
-        requires { self.now.script.config.lag ≤ 256 }
-        ensures { result ≡ missing_at self.now.script.config.lag (way_counts self.now) }
-    {
-        let lag = u32::from(self.script.config.lag);
-        let ticks = self.core.ticks();
-        if !tells_next(lag, ticks) {
-            return None;
-        }
-        let packet = ticks / 16 - lag;
-        if u64::from(self.core.taken()) <= 16 * u64::from(packet) + 23 {
-            Some(StallCause::BackMissing { packet })
-        } else {
-            None
-        }
-    }
-
-    /// Gives the return packet that the other way's next packet tells, where it tells one.
-    pub(crate) fn tell_next(&mut self) -> Option<Packet>
-        requires { self.old.script.config.lag ≤ 256 }
-        ensures told { let tells =
-            tells_next self.old.script.config.lag self.old.core.source.core.ticks in
-            result ≡ told_now tells self.old.said.packets }
-        ensures rest { let tells =
-            tells_next self.old.script.config.lag self.old.core.source.core.ticks in
-            self.new ≡ record self.old { said = left_untold tells self.old.said } }
-    {
-        if tells_next(u32::from(self.script.config.lag), self.core.ticks()) {
-            self.said.tell()
-        } else {
-            None
-        }
-    }
-}
-
-/// Whether the frame after some ticks begins a packet that tells a return packet.
-fn tells_next(lag: u32, ticks: u32) -> bool
-    requires { lag ≤ 256 }
-    ensures { result ≡ tells_next lag ticks }
-{
-    16 * lag + 8 <= ticks && ticks % 16 == 8
 }
 
 /// What a carry answers, which stalls for a cause or not.
@@ -191,25 +130,16 @@ fn carried(cause: Option<StallCause>) -> Moved
     }
 }
 
-/// Makes room for what a way of a script has beside it, before any event. A return packet needs the lag twice: until
-/// it is in a packet of the other way, and until that has come. The script is lent, so that it is let go once.
-fn open_parts(
-    alloc: Global,
-    script: &mut Script,
-) -> Result<(Landing, WayCore, SaidRing), AllocError>
+/// Makes room for what a way of a script has beside it, before any event. The script is lent, so that it is let go
+/// once.
+fn open_parts(alloc: Global, script: &mut Script) -> Result<(Landing, LiveWay), AllocError>
     requires { IsWay script.old }
     ensures script { IfOk result (λ parts. script.new ≡ script.old) }
     ensures landing { IfOk result (λ parts. parts.0 ≡ none_landed
         script.old.config.lines (bare_items script.old.items)) }
-    ensures core { IfOk result (λ parts. IsNewCore script.old parts.1) }
-    ensures said { IfOk result (λ parts.
-        parts.2 ≡ record { packets = []; room = script.old.config.lag }) }
+    ensures live { IfOk result (λ parts. IsNewLive script.old.config (walking_of parts.1)) }
 {
-    let lag = script.config.lag;
-    let said = SaidRing::new(alloc, lag)?;
     let landing = Landing::of(alloc, script)?;
-    script.config.lag = 2 * lag;
-    let core = WayCore::new(alloc, &script.config)?;
-    script.config.lag = lag;
-    Ok((landing, core, said))
+    let live = LiveWay::open(alloc, &mut script.config)?;
+    Ok((landing, live))
 }

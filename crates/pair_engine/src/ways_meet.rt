@@ -3,11 +3,14 @@
 ghost use Rattle.std.specs.Prelude.{◌≡◌, Some, None, option_map};
 ghost use Rattle.law_model.specs.Common.{leader, told_by, told_in};
 ghost use Rattle.walk_engine.specs.Common.{GivesRows};
-ghost use Rattle.law_pair.specs.Common.{first_way, tick_by, tick_cause, pair_plan};
-ghost use Rattle.pair_engine.specs.declared.pair_way.PairWay.{PairWay};
-ghost use Rattle.pair_engine.specs.WayCalls.{TakesRow, EndsPacket, Hears};
-ghost use Rattle.pair_engine.specs.Ways.{AreBeside, IsPairWalk, leg_beside, pair_counts};
+ghost use Rattle.law_model.specs.declared.script_types.Script.{Script};
+ghost use Rattle.law_pair.specs.Common.{first_way, tick_by, tick_cause, pair_plan, way_of};
+ghost use Rattle.pair_engine.specs.LivePairs.{GoesOn, IsLivePair, LiveBeside, PairLives, WayWalking, walking_counts};
+ghost use Rattle.pair_engine.specs.ToldAndHeard.{IsSaid};
+ghost use Rattle.pair_engine.specs.WayCalls.{CanTickBoth, EndsPacket, Hears, Keeps, TakesRow, late_cause};
+ghost use Rattle.pair_engine.specs.Ways.{IsPairWalk, pair_counts, walking_both, walking_of};
 
+use crate::live_way::{LiveWay, next_note};
 use crate::pair_way::PairWay;
 use law_model::{FrameOut, StallCause};
 use law_pair::Way;
@@ -28,6 +31,16 @@ pub(crate) fn tick_stall(there: &PairWay, back: &PairWay) -> Option<(Way, StallC
     if let Some(cause) = first_way(there.held(), back.held()) {
         return Some(cause);
     }
+    live_stall(&there.live, &back.live)
+}
+
+/// Why no frame is made, and in which way, where ticks are left and nothing is held.
+pub(crate) fn live_stall(there: &LiveWay, back: &LiveWay) -> Option<(Way, StallCause)>
+    requires { IsLivePair (walking_both there.now back.now) }
+    ensures { (one other : Script) → PairLives one other (walking_both there.now back.now) →
+        result ≡ late_cause (pair_plan one other)
+        (walking_counts (walking_both there.now back.now)) }
+{
     if let Some(cause) = first_way(there.full(), back.full()) {
         return Some(cause);
     }
@@ -45,37 +58,50 @@ fn first_way(there: Option<StallCause>, back: Option<StallCause>) -> Option<(Way
     }
 }
 
-/// Makes the next frame of both ways. Where a packet begins with it, each way tells what was said of the other one.
-pub(crate) fn tick_both(there: &mut PairWay, back: &mut PairWay)
-    requires walk { IsPairWalk there.old back.old }
-    requires free { tick_cause (pair_plan there.old.script back.old.script)
-        (pair_counts there.old back.old) ≡ None }
-    ensures walk { IsPairWalk there.new back.new }
-    ensures there_script { there.new.script ≡ there.old.script }
-    ensures back_script { back.new.script ≡ back.old.script }
-    ensures counts { pair_counts there.new back.new
-        ≡ (tick_by None (pair_counts there.old back.old)).counts }
+/// Makes the next frame of both ways. Where a packet begins with it, each way tells what was said of the other one, and
+/// notes the decision step that its source made.
+pub(crate) fn tick_both(there: &mut LiveWay, back: &mut LiveWay)
+    requires { (one : Script) × (other : Script)
+        × CanTickBoth one other (walking_both there.old back.old) }
+    ensures ticks { (one other : Script) →
+        CanTickBoth one other (walking_both there.old back.old) →
+        GoesOn one other (tick_by None (walking_counts (walking_both there.old back.old))).counts
+        (walking_both there.new back.new) }
+    ensures there { Keeps (walking_of there.old) (walking_of there.new) }
+    ensures back { Keeps (walking_of back.old) (walking_of back.new) }
 {
     let of_there = there.tell_next();
     let of_back = back.tell_next();
-    let _ = there.core.make(of_back);
-    let _ = back.core.make(of_there);
+    let ticks = there.core.ticks();
+    let there_took = there.core.make(of_back);
+    there.last = next_note(ticks, there_took, there.last);
+    let ticks = back.core.ticks();
+    let back_took = back.core.make(of_there);
+    back.last = next_note(ticks, back_took, back.last);
 }
 
 /// Takes the next row of a way, where its lines decide it. What is said then waits to be told by the other way; and
 /// where a packet row ends with it, the source of the other way hears what its packets tell.
 pub(crate) fn take_way_row<F: FrameOut>(
-    own: &mut PairWay,
-    other: &mut PairWay,
+    own: &mut LiveWay,
+    other: &mut LiveWay,
     out: &mut F,
 ) -> Moved
-    requires { AreBeside own.old other.old }
-    ensures takes { TakesRow own.old other.old own.new other.new result }
-    ensures gives { GivesRows F.stands_for out.old out.new (leg_beside own.old other.old)
+    requires { (script : Script) × (beside : Script)
+        × LiveBeside script beside (walking_of own.old) (walking_of other.old) }
+    ensures takes { (script beside : Script) →
+        LiveBeside script beside (walking_of own.old) (walking_of other.old) →
+        TakesRow script beside (walking_of own.old) (walking_of other.old)
+        (walking_of own.new) (walking_of other.new) result }
+    ensures gives { (script beside : Script) →
+        LiveBeside script beside (walking_of own.old) (walking_of other.old) →
+        GivesRows F.stands_for out.old out.new (way_of script beside)
         own.old.core.sink.taken own.new.core.sink.taken }
+    ensures own { Keeps (walking_of own.old) (walking_of own.new) }
+    ensures other { Keeps (walking_of other.old) (walking_of other.new) }
 {
     let row = own.core.taken();
-    if row >= own.script.config.ticks {
+    if row >= own.core.total_ticks() {
         return Moved::Stalled(StallCause::Done);
     }
     match own.core.take(out) {
@@ -91,11 +117,15 @@ pub(crate) fn take_way_row<F: FrameOut>(
 
 /// The source of the other way hears what the packets tell that ended with a row of this one, where they tell a
 /// return packet. It is lost where no line has a packet that can be read.
-fn hear(own: &PairWay, other: &mut PairWay, row: u32)
-    requires { (was : PairWay) × EndsPacket was own.now other.old row }
-    ensures { Hears own.now other.old other.new }
+fn hear(own: &LiveWay, other: &mut LiveWay, row: u32)
+    requires { (script : Script) × (beside : Script) × (was : WayWalking)
+        × EndsPacket script beside was (walking_of own.now) (walking_of other.old) row }
+    ensures hears { (script beside : Script) (was : WayWalking) →
+        EndsPacket script beside was (walking_of own.now) (walking_of other.old) row →
+        Hears script beside (walking_of own.now) (walking_of other.old) (walking_of other.new) }
+    ensures other { Keeps (walking_of other.old) (walking_of other.new) }
 {
-    if row >= 16 * u32::from(own.script.config.lag) + 23 {
+    if row >= 16 * u32::from(own.lag) + 23 {
         let cell = heard_cell(own.core.packets());
         other.core.put(cell);
     }
@@ -103,7 +133,8 @@ fn hear(own: &PairWay, other: &mut PairWay, row: u32)
 
 /// What comes of the packets that were read of a packet row: what the least line has, or a loss.
 fn heard_cell(row: &[Option<Packet>]) -> BackCell
-    ensures { told_in result ≡ option_map told_by (leader row.now) }
+    ensures told { told_in result ≡ option_map told_by (leader row.now) }
+    ensures said { IsSaid result }
 {
     match leader(row) {
         Some(packet) => told_cell(packet),
@@ -113,7 +144,8 @@ fn heard_cell(row: &[Option<Packet>]) -> BackCell
 
 /// A packet as a return cell, which tells what it does.
 fn told_cell(packet: Packet) -> BackCell
-    ensures { told_in result ≡ Some (told_by packet) }
+    ensures told { told_in result ≡ Some (told_by packet) }
+    ensures said { IsSaid result }
 {
     BackCell::Packet(packet.nibbles())
 }

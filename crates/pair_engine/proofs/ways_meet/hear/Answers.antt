@@ -1,29 +1,48 @@
 -- What is read is the session's return cell; the first packets tell none.
-use Rattle.std.proofs.Common.{arith}
+use Rattle.std.proofs.Common.{ap, arith}
 use Rattle.law_model.specs.session.Scenario.{packets_in}
 use Rattle.law_pair.specs.Common.{way_of}
-use Rattle.pair_engine.proofs.TakenRowAndHeardPacketLaws.{put-room, hears-late, hears-early}
+use Rattle.walk_engine.specs.Common.{Parts, windows_in}
+use Rattle.pair_engine.specs.Ways.{walking_of}
+use Rattle.pair_engine.proofs.TakenRowAndHeardPacketLaws.{put-room, put-few, hears-late, hears-early}
 use Rattle.pair_engine.proofs.ways_meet.hear.Goals as goal
 
-pub put-requires-clause-room : goal.put-requires-clause-room
-put-requires-clause-room c =
+pub put-requires : goal.put-requires
+put-requires c =
+    let (script, beside, was, ends) = c.requires in
+    let own = walking_of c.args.own.now in
+    let other = walking_of c.args.other.now in
     let late = c.if-row-from.true in
-    let lag = c.from.ensures in
-    put-room c.requires.0 c.args.own.now c.args.other.now c.args.row c.requires.1 (omega (arith, late, lag))
+    let from = c.from.ensures in
+    let lag = ends.lag in
+    record {
+      room = put-room script beside was own other c.args.row ends (omega (arith, late, from, lag));
+      few = put-few script beside was own other c.args.row ends (omega (arith, late, from, lag));
+    }
 
-pub returns-then-row-from : goal.returns-then-row-from
-returns-then-row-from c =
+pub returns-then-row-from-clause-hears : goal.returns-then-row-from-clause-hears
+returns-then-row-from-clause-hears c script beside was ends =
+    let own = walking_of c.args.own.now in
+    let other = walking_of c.args.other.now in
     let late = c.if-row-from.true in
-    let lag = c.from.ensures in
-    let own = c.args.own.now in
-    let other = c.args.other.now in
-    hears-late c.requires.0 own other c.args.row c.requires.1 (omega (arith, late, lag)) c.heard_cell-cell.result
-    c.packets.result.now c.put.new.self
-    (c.packets.ensures (way_of c.requires.0.script other.script) (packets_in own.core.sink.taken)
-    c.requires.1.stands) c.heard_cell-cell.ensures c.put.ensures
+    let from = c.from.ensures in
+    let lag = ends.lag in
+    hears-late script beside was own other c.args.row ends (omega (arith, late, from, lag)) c.heard_cell-cell.result
+    c.packets.result.now c.put.new.self c.heard_cell-cell.ensures.said
+    (c.packets.ensures (way_of script beside) (packets_in own.core.sink.taken) ends.stands)
+    c.heard_cell-cell.ensures.told c.put.ensures
 
-pub returns-else-row-from : goal.returns-else-row-from
-returns-else-row-from c =
+pub returns-then-row-from-clause-other : goal.returns-then-row-from-clause-other
+returns-then-row-from-clause-other c = record {
+  frames = ap (λ (p : Parts). p.source.landed.frames) c.put.ensures;
+  commands = ap (λ (p : Parts). p.source.landed.commands) c.put.ensures;
+  windows = ap (λ (p : Parts). windows_in p.lines) c.put.ensures;
+}
+
+pub returns-else-row-from-clause-hears : goal.returns-else-row-from-clause-hears
+returns-else-row-from-clause-hears c script beside was ends =
     let early = c.if-row-from.false in
-    let lag = c.from.ensures in
-    hears-early c.requires.0 c.args.own.now c.args.other.now c.args.row c.requires.1 (omega (arith, early, lag))
+    let from = c.from.ensures in
+    let lag = ends.lag in
+    hears-early script beside was (walking_of c.args.own.now) (walking_of c.args.other.now) c.args.row ends
+    (omega (arith, early, from, lag))

@@ -1,10 +1,15 @@
 -- The causes, one after another.
-use Rattle.std.proofs.Common.{sym, ◌∙◌, ap, ap₂}
-use Rattle.law_pair.specs.Common.{first_way, missing_at}
+use Rattle.std.proofs.Common.{sym, ◌∙◌, ap₂}
+use Rattle.law_pair.specs.Common.{first_way}
 use Rattle.pair_engine.specs.declared.pair_way.PairWay.{PairWay}
-use Rattle.pair_engine.specs.Ways.{way_counts}
-use Rattle.pair_engine.proofs.PairEventAndRoundLaws.{cause-here, cause-later}
+use Rattle.pair_engine.proofs.PairEventAndRoundLaws.{cause-here, cause-later, lives-of}
 use Rattle.pair_engine.proofs.ways_meet.tick_stall.Goals as goal
+
+pub live_stall-requires : goal.live_stall-requires
+live_stall-requires c =
+    let there : PairWay = c.args.there.now in
+    let back : PairWay = c.args.back.now in
+    (there.script, back.script, lives-of there back c.requires)
 
 pub returns-in-Some : goal.returns-in-Some
 returns-in-Some c =
@@ -21,19 +26,6 @@ returns-in-Some-first_way c =
     cause-later _ _ _ (sym done ∙ c.in_default.is)
     (cause-here _ _ c.in-Some-first_way.cause (sym holds ∙ c.in-Some-first_way.is))
 
-pub returns-in-Some-first_way-2 : goal.returns-in-Some-first_way-2
-returns-in-Some-first_way-2 c =
-    let there : PairWay = c.args.there.now in
-    let back : PairWay = c.args.back.now in
-    let done = c.first_way.ensures ∙ ap₂ first_way (c.done.ensures back.script) (c.done-2.ensures there.script) in
-    let holds = c.first_way-2.ensures ∙ ap₂ first_way (c.held.ensures back.script c.requires.there_way.landed)
-    (c.held-2.ensures there.script c.requires.back_way.landed) in
-    let fills = c.first_way-3.ensures ∙ ap₂ first_way (c.full.ensures back.script c.requires.there_way.stands)
-    (c.full-2.ensures there.script c.requires.back_way.stands) in
-    cause-later _ _ _ (sym done ∙ c.in_default.is)
-    (cause-later _ _ _ (sym holds ∙ c.in_default-first_way.is)
-    (cause-here _ _ c.in-Some-first_way-2.cause (sym fills ∙ c.in-Some-first_way-2.is)))
-
 pub returns : goal.returns
 returns c =
     let there : PairWay = c.args.there.now in
@@ -41,11 +33,6 @@ returns c =
     let done = c.first_way.ensures ∙ ap₂ first_way (c.done.ensures back.script) (c.done-2.ensures there.script) in
     let holds = c.first_way-2.ensures ∙ ap₂ first_way (c.held.ensures back.script c.requires.there_way.landed)
     (c.held-2.ensures there.script c.requires.back_way.landed) in
-    let fills = c.first_way-3.ensures ∙ ap₂ first_way (c.full.ensures back.script c.requires.there_way.stands)
-    (c.full-2.ensures there.script c.requires.back_way.stands) in
-    let unsaid = c.first_way-4.ensures
-    ∙ ap₂ first_way c.unsaid.ensures
-    (c.unsaid-2.ensures ∙ ap (λ lag. missing_at lag (way_counts back)) (sym c.requires.pair.lag)) in
     cause-later _ _ _ (sym done ∙ c.in_default.is)
     (cause-later _ _ _ (sym holds ∙ c.in_default-first_way.is)
-    (cause-later _ _ _ (sym fills ∙ c.in_default-first_way-2.is) unsaid))
+    (c.live_stall.ensures there.script back.script (lives-of there back c.requires)))

@@ -44,7 +44,7 @@ returns-in-There c =
       pair = now.pair;
       moved = now.moved;
       rows = record {
-        there = c.carry.ensures.quiet.rows ∙ ap (λ (p : Paired). p.counts.there.rows) c.self.view_is;
+        there = c.carry.ensures.quiet.still.rows ∙ ap (λ (p : Paired). p.counts.there.rows) c.self.view_is;
         back = ap (λ (p : Paired). p.counts.back.rows) c.self.view_is;
       };
     }
@@ -61,7 +61,7 @@ returns-in-Back c =
       moved = now.moved;
       rows = record {
         there = ap (λ (p : Paired). p.counts.there.rows) c.self.view_is;
-        back = c.carry-in-Back.ensures.quiet.rows ∙ ap (λ (p : Paired). p.counts.back.rows) c.self.view_is;
+        back = c.carry-in-Back.ensures.quiet.still.rows ∙ ap (λ (p : Paired). p.counts.back.rows) c.self.view_is;
       };
     }
 

@@ -31,7 +31,7 @@ returns-in-There c =
       pair = now.pair;
       moved = now.moved;
       rows = record {
-        there = c.land.ensures.quiet.rows ∙ ap (λ (p : Paired). p.counts.there.rows) c.self.view_is;
+        there = c.land.ensures.quiet.still.rows ∙ ap (λ (p : Paired). p.counts.there.rows) c.self.view_is;
         back = ap (λ (p : Paired). p.counts.back.rows) c.self.view_is;
       };
       fits = now.walk.pair;
@@ -49,7 +49,7 @@ returns-in-Back c =
       moved = now.moved;
       rows = record {
         there = ap (λ (p : Paired). p.counts.there.rows) c.self.view_is;
-        back = c.land-in-Back.ensures.quiet.rows ∙ ap (λ (p : Paired). p.counts.back.rows) c.self.view_is;
+        back = c.land-in-Back.ensures.quiet.still.rows ∙ ap (λ (p : Paired). p.counts.back.rows) c.self.view_is;
       };
       fits = now.walk.pair;
       walked = now.walk.walked;

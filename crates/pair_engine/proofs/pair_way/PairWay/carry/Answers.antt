@@ -13,7 +13,7 @@ returns-clause-goes c other stands landed =
     let own = c.args.self.now in
     let leg = way_of own.script other in
     let e = c.carry.ensures in
-    let makes = e.makes leg (packets_in own.core.sink.taken) stands in
+    let makes = e.makes leg (packets_in own.live.core.sink.taken) stands in
     let rows = ap (λ (p : Parts). packets_in p.sink.taken) e.rest in
     record {
       stands = subst (λ n. WayStands leg n c.carry.new.self) (sym rows) makes.stands;

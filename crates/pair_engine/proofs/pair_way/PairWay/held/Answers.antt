@@ -11,16 +11,17 @@ use Rattle.pair_engine.proofs.pair_way.PairWay.held.Goals as goal
 
 -- by the ticks as they are read
 held-is : (own : PairWay) (other : Script) (ticks : ℕ) (found : Option ℕ) →
-    LandedAs (way_of own.script other) own → ticks ≡ own.core.source.core.ticks →
+    LandedAs (way_of own.script other) own → ticks ≡ own.live.core.source.core.ticks →
     found ≡ held ticks own.landing.frames own.landing.commands 0 (dues_of own.landing.items) →
-    found ≡ held own.core.source.core.ticks own.core.source.landed.frames own.core.source.landed.commands 0
-    (dues_of own.script.items)
+    found ≡ held own.live.core.source.core.ticks own.live.core.source.landed.frames
+    own.live.core.source.landed.commands 0 (dues_of own.script.items)
 held-is own other ticks found known at e =
     e ∙ ap (λ n. held n own.landing.frames own.landing.commands 0 (dues_of own.landing.items)) at
-    ∙ ap (λ n. held own.core.source.core.ticks n own.landing.commands 0 (dues_of own.landing.items)) known.frames
-    ∙ ap (λ n. held own.core.source.core.ticks own.core.source.landed.frames n 0 (dues_of own.landing.items))
+    ∙ ap (λ n. held own.live.core.source.core.ticks n own.landing.commands 0 (dues_of own.landing.items)) known.frames
+    ∙ ap (λ n. held own.live.core.source.core.ticks own.live.core.source.landed.frames n 0 (dues_of own.landing.items))
     known.commands
-    ∙ ap (held own.core.source.core.ticks own.core.source.landed.frames own.core.source.landed.commands 0)
+    ∙ ap (held own.live.core.source.core.ticks own.live.core.source.landed.frames
+    own.live.core.source.landed.commands 0)
     (ap dues_of known.items ∙ bare-dues own.script.items)
 
 pub returns-in-Some : goal.returns-in-Some

@@ -26,7 +26,7 @@ pub lend-lent-requires : goal.lend-lent-requires
 lend-lent-requires c =
     let own = c.args.self.now in
     let (other, stands, known) = c.requires in
-    (number-in (way_of own.script other) (packets_in own.core.sink.taken) own.core stands own.landing known
+    (number-in (way_of own.script other) (packets_in own.live.core.sink.taken) own.live.core stands own.landing known
     c.in-Some.next.client c.in-Some.next.number c.in-Some.ensures.number).1
 
 pub land-requires-clause-reason : goal.land-requires-clause-reason
@@ -34,44 +34,44 @@ land-requires-clause-reason c =
     let own = c.args.self.now in
     let (other, stands, known) = c.requires in
     let leg = way_of own.script other in
-    let backs = packets_in own.core.sink.taken in
+    let backs = packets_in own.live.core.sink.taken in
     let next = c.in-Some.next in
     let low = c.if-ticks-next.false in
     let at = c.ticks.ensures in
     let dues = c.in-Some.ensures.due in
     let lends : (item : Item) → slice_get own.script.items next.number ≡ Some item →
     kind_of c.lent_item.result ≡ item.kind = λ item at. c.lent_item.ensures ∙ c.lend-lent.ensures item at in
-    let due = due-in leg backs own.core stands own.landing known next.client next.number
+    let due = due-in leg backs own.live.core stands own.landing known next.client next.number
     (kind_of c.lent_item.result) c.in-Some.ensures.number lends (omega (arith, low, at, dues)) in
-    land-reason leg backs own.core stands own.landing known next.number (kind_of c.lent_item.result)
+    land-reason leg backs own.live.core stands own.landing known next.number (kind_of c.lent_item.result)
     c.land-why.result due (c.land-why.ensures.refusal leg backs stands due) lends
 
 pub returns-clause-goes : goal.returns-clause-goes
 returns-clause-goes c other stands known =
     let own = c.args.self.now in
     let leg = way_of own.script other in
-    let backs = packets_in own.core.sink.taken in
+    let backs = packets_in own.live.core.sink.taken in
     let next = c.in-Some.next in
     let low = c.if-ticks-next.false in
     let at = c.ticks.ensures in
     let dues = c.in-Some.ensures.due in
-    let late : next.due ≤ own.core.source.core.ticks = omega (arith, low, at) in
+    let late : next.due ≤ own.live.core.source.core.ticks = omega (arith, low, at) in
     let lends : (item : Item) → slice_get own.script.items next.number ≡ Some item →
     kind_of c.lent_item.result ≡ item.kind = λ item at. c.lent_item.ensures ∙ c.lend-lent.ensures item at in
-    let kind = land-kind leg backs own.core stands own.landing known next.client next.number
+    let kind = land-kind leg backs own.live.core stands own.landing known next.client next.number
     (kind_of c.lent_item.result) c.in-Some.ensures.number lends in
-    let due = due-in leg backs own.core stands own.landing known next.client next.number
+    let due = due-in leg backs own.live.core stands own.landing known next.client next.number
     (kind_of c.lent_item.result) c.in-Some.ensures.number lends (omega (arith, late, dues)) in
-    let makes : Makes leg backs (landing_of next.client) own.core c.land-why.new.self
+    let makes : Makes leg backs (landing_of next.client) own.live.core c.land-why.new.self
     (answer_by None c.land-why.result) =
-    subst (λ client. Makes leg backs (landing_of client) own.core c.land-why.new.self
+    subst (λ client. Makes leg backs (landing_of client) own.live.core c.land-why.new.self
     (answer_by None c.land-why.result)) kind (c.land-why.ensures.makes leg backs stands due) in
-    let moves = land-due leg backs own.core stands own.landing known next.client next.number
-    own.core.source.core.ticks next.due c.in-Some.ensures.number refl dues late in
+    let moves = land-due leg backs own.live.core stands own.landing known next.client next.number
+    own.live.core.source.core.ticks next.due c.in-Some.ensures.number refl dues late in
     let rows = ap (λ (p : Parts). p.sink.taken) c.land-why.ensures.rest in
     let goes = goes-landed own other stands known c.next_item.result c.next_item.ensures.first next
     (sym c.in-Some.is) late moves c.land-why.new.self c.land-why.result makes rows in
-    let landed = land-known leg backs own.core stands own.landing known c.land.new.self next.number
+    let landed = land-known leg backs own.live.core stands own.landing known c.land.new.self next.number
     (kind_of c.lent_item.result) c.land-why.result due (ap (next_number own.landing) kind ∙ c.in-Some.ensures.number)
     (c.land-why.ensures.refusal leg backs stands due)
     (subst (λ client. HasPassed own.landing c.land.new.self client (is_some c.land-why.result)) (sym kind)
