@@ -1,0 +1,17 @@
+pub mod PairLineSayingsLaws
+pub mod PairReaderStateLaws
+pub mod WorkedPairTextLaws
+pub mod LegStandLaws
+pub mod PairItemLaws
+pub mod PairLoopLaws
+pub mod PairPassLaws
+pub mod PairRoundLaws
+pub mod PairSayingLaws
+pub mod PairStandLaws
+pub mod WayLineLaws
+pub mod PairAnswerGrowthLaws
+pub mod PairConversationLaws
+pub mod PairSaidByLineLaws
+pub mod PairTalkerLineLaws
+pub mod PairTalkerReplyLaws
+pub mod PairWayHeadlineLaws

@@ -1,0 +1,11 @@
+pub mod PairLines
+pub mod PairSayingsOfLines
+pub mod PairReaderStands
+pub mod PairNotes
+pub mod WorkedPairTexts
+pub mod PairReplies
+pub mod PairAnswered
+pub mod PairPassing
+pub mod PairDialogue
+pub mod PairTalking
+pub mod PairHeadline
