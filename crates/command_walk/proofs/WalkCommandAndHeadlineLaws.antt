@@ -24,7 +24,10 @@ use Rattle.pair_walk.specs.ReportsOfWays.{way_text, pair_text, pair_reply}
 use Rattle.pair_walk.proofs.PairReportRowsLaws.{pair_headline}
 use Rattle.walk_live.specs.Headline.{IsLiveHeadline}
 use Rattle.walk_live.proofs.ConversationAnswerLaws.{live_headline}
+use Rattle.pair_live.specs.PairHeadline.{IsLivePairHeadline}
+use Rattle.pair_live.proofs.PairConversationLaws.{pair_headline as live_pair_headline}
 use Rattle.command_walk.specs.commands.Live.{asks, live_talk, live_words}
+use Rattle.command_walk.specs.commands.LivePair.{asks_pair, live_pair_talk, live_pair_words}
 use Rattle.walk_live.specs.declared.asked.Asked.{Asked}
 use Rattle.walk_live.specs.declared.asked.Asked.TheVariants.{Nothing, Steps, Members}
 use Rattle.command_walk.specs.commands.Pair.{TellsPair, pair_words}
@@ -42,7 +45,7 @@ use Rattle.command_parts.proofs.SourceTextAndStopLaws.{ends-no-memory}
 use Rattle.command_walk.specs.declared.command_of_words.WalkCommand.TheVariants.{Walk, Trace, Fates, Capture, Gfp}
 use Rattle.command_walk.specs.declared.command_of_words.WalkCommand.TheVariants.{Frames, Decode, Noise, Au4, Channels}
 use Rattle.command_walk.specs.declared.command_of_words.WalkCommand.TheVariants.{Pair, Make, Check, Service, H4, Live}
-use Rattle.command_walk.specs.declared.command_of_words.WalkCommand.TheVariants.{OneWay, Stream}
+use Rattle.command_walk.specs.declared.command_of_words.WalkCommand.TheVariants.{LivePair, OneWay, Stream}
 use Rattle.law_pair.specs.declared.pair_events.Way.TheVariants.{There, Back}
 use Rattle.command_walk.specs.commands.Walk.{word_at, is_word, walk_words}
 use Rattle.command_walk.specs.commands.Trace.{trace_words, trace_text}
@@ -174,6 +177,24 @@ module _ {S K E : Type 0} (source : Lent S) (out : Lent K) (notes : Lent E) (ask
       live-told (source.octets source.old)
       (all-said source out notes (live_talk asked) status (as-talk source out notes (live_talk asked) status ends) at)
 
+-- ---- the headline of a conversation of both ways
+module _ {S K E : Type 0} (source : Lent S) (out : Lent K) (notes : Lent E) (asked : Asked) (status : ℕ) where
+  abbrev IsLivePairTold : List ℕ → Type 0
+  IsLivePairTold text = (written : List ℕ) × Takes out written × IsLivePairHeadline asked text written
+
+  live-pair-told : (o : Option (List ℕ)) → IfSome o (λ text. (((live_pair_talk asked).in_all text).end ≡ None)
+      × Takes out ((live_pair_talk asked).in_all text).text) → IfSome o IsLivePairTold
+  live-pair-told None all = tt
+  live-pair-told (Some text) all =
+      (((live_pair_talk asked).in_all text).text, all.1, live_pair_headline asked text all.0)
+
+  pub tells-live-pair : Ends source out notes (talks (live_pair_talk asked)) status → status ≡ 0 →
+      IfSome (source.octets source.old) IsLivePairTold
+  tells-live-pair ends at =
+      let talk = live_pair_talk asked in
+      live-pair-told (source.octets source.old)
+      (all-said source out notes talk status (as-talk source out notes talk status ends) at)
+
 -- ---- words
 pub some-command : (P : WalkCommand → Type 0) (o : Option WalkCommand) (command : WalkCommand) → o ≡ Some command →
     P command → IfSome o P
@@ -252,6 +273,14 @@ live-fits words =
     (either-fits (asks (codes "trace") words) (Some (Live Steps)) last tt
     (if-fits (asks (codes "told") words) (Some (Live Members)) tt))
 
+live-pair-fits : (words : List (List ℕ)) → IfSome (live_pair_words words) Fits
+live-pair-fits words =
+    let last = if asks_pair (codes "told") words then Some (LivePair Members) else None in
+    either-fits (asks (codes "pair") words) (Some (LivePair Nothing))
+    (if asks_pair (codes "trace") words then Some (LivePair Steps) else last) tt
+    (either-fits (asks_pair (codes "trace") words) (Some (LivePair Steps)) last tt
+    (if-fits (asks_pair (codes "told") words) (Some (LivePair Members)) tt))
+
 one-way-fits : (words : List (List ℕ)) → IfSome (one_way_words words) Fits
 one-way-fits words =
     either-fits (is_way (codes "there") words) (Some (OneWay There))
@@ -317,6 +346,7 @@ named-fits words =
     ∷ (pair_words words, word-fits (codes "pair") words Pair tt)
     ∷ (one_way_words words, one-way-fits words)
     ∷ (live_words words, live-fits words)
+    ∷ (live_pair_words words, live-pair-fits words)
     ∷ (make_words words, make-fits words)
     ∷ (stream_words words, stream-fits words)
     ∷ [])
@@ -359,6 +389,7 @@ is-command (Some Channels) some = tt
 is-command (Some Pair) some = tt
 is-command (Some (OneWay way)) some = tt
 is-command (Some (Live asked)) some = tt
+is-command (Some (LivePair asked)) some = tt
 is-command (Some (Make number lines ticks)) some = tt
 is-command (Some (Stream load)) some = tt
 
@@ -410,6 +441,7 @@ module _ {S K E : Type 0} (source : Lent S) (out : Lent K) (notes : Lent E) (sta
   headline-of Pair runs ends at = absurd runs
   headline-of (OneWay way) runs ends at = absurd runs
   headline-of (Live asked) runs ends at = absurd runs
+  headline-of (LivePair asked) runs ends at = absurd runs
   headline-of (Make number lines ticks) runs ends at = absurd runs
   headline-of (Stream rate) runs ends at = absurd runs
 

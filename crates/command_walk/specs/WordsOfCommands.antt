@@ -12,7 +12,7 @@ use Rattle.command_walk.specs.declared.command_of_words.WalkCommand.{WalkCommand
 use Rattle.command_walk.specs.declared.command_of_words.WalkCommand.TheVariants.{Walk, Trace, Fates, Capture, Gfp}
 use Rattle.command_walk.specs.declared.command_of_words.WalkCommand.TheVariants.{Frames, Decode, Noise, Au4, Channels}
 use Rattle.command_walk.specs.declared.command_of_words.WalkCommand.TheVariants.{Pair, Make, Check, H4, Service}
-use Rattle.command_walk.specs.declared.command_of_words.WalkCommand.TheVariants.{Live, OneWay, Stream}
+use Rattle.command_walk.specs.declared.command_of_words.WalkCommand.TheVariants.{Live, LivePair, OneWay, Stream}
 use Rattle.command_walk.specs.commands.Walk.{walk_words, walk_answer}
 use Rattle.command_walk.specs.commands.Trace.{trace_words, trace_answer}
 use Rattle.command_walk.specs.commands.Capture.{capture_words, capture_answer}
@@ -30,18 +30,19 @@ use Rattle.command_walk.specs.commands.Pair.{pair_words}
 use Rattle.command_walk.specs.commands.OneWay.{one_way_answer, one_way_words}
 use Rattle.pair_walk.specs.ReportsOfWays.{pair_reply}
 use Rattle.command_walk.specs.commands.Live.{live_words, live_talk}
+use Rattle.command_walk.specs.commands.LivePair.{live_pair_words, live_pair_talk}
 use Rattle.command_walk.specs.commands.Make.{make_words, make_answer}
 use Rattle.command_walk.specs.commands.Stream.{stream_words, stream_answer}
 use Rattle.command_walk.specs.HandedWalk.{IsWalkOf, HandsScript}
 use Rattle.law_model.specs.Common.{most_drawn_ticks, most_ticks}
 
 abbrev pub usage : List ℕ
-usage = codes "usage: vcat_walk walk, trace, fates, check, h4 LINE, service INTERVAL, capture, gfp, frames, decode, noise, au4, channels, pair, pair there, pair back, live, live trace, live told, make NUMBER LINES TICKS, or stream OCTETS MBITS FIRST END NUMBER\n"
+usage = codes "usage: vcat_walk walk, trace, fates, check, h4 LINE, service INTERVAL, capture, gfp, frames, decode, noise, au4, channels, pair, pair there, pair back, live, live trace, live told, live pair, live pair trace, live pair told, make NUMBER LINES TICKS, or stream OCTETS MBITS FIRST END NUMBER\n"
 
 -- ---- a line for each command
 abbrev pub command_of : List (List ℕ) → Option WalkCommand
 command_of words =
-    option_or (option_or (option_or (option_or (option_or (option_or (option_or (option_or
+    option_or (option_or (option_or (option_or (option_or (option_or (option_or (option_or (option_or
     (option_or (option_or (option_or (option_or (option_or (option_or (option_or (option_or
     (option_or (walk_words words) (trace_words words))
     (fates_words words))
@@ -58,6 +59,7 @@ command_of words =
     (pair_words words))
     (one_way_words words))
     (live_words words))
+    (live_pair_words words))
     (make_words words))
     (stream_words words)
 
@@ -78,6 +80,7 @@ task_at Channels = reads channels_answer
 task_at Pair = reads pair_reply
 task_at (OneWay way) = reads (one_way_answer way)
 task_at (Live asked) = talks (live_talk asked)
+task_at (LivePair asked) = talks (live_pair_talk asked)
 task_at (Make number lines ticks) = makes (make_answer number lines ticks)
 task_at (Stream load) = makes (stream_answer load)
 
@@ -98,6 +101,7 @@ HandsBack source walk Channels = walk ≡ None
 HandsBack source walk Pair = walk ≡ None
 HandsBack source walk (OneWay way) = walk ≡ None
 HandsBack source walk (Live asked) = walk ≡ None
+HandsBack source walk (LivePair asked) = walk ≡ None
 HandsBack source walk (Make number lines ticks) = IsWalkOf (load number lines ticks) walk
 HandsBack source walk (Stream rate) = walk ≡ None
 
@@ -119,6 +123,7 @@ RunsScript Channels = ⊥
 RunsScript Pair = ⊥
 RunsScript (OneWay way) = ⊥
 RunsScript (Live asked) = ⊥
+RunsScript (LivePair asked) = ⊥
 RunsScript (Make number lines ticks) = ⊥
 RunsScript (Stream rate) = ⊥
 
@@ -140,6 +145,7 @@ Fits Channels = Unit {0}
 Fits Pair = Unit {0}
 Fits (OneWay way) = Unit {0}
 Fits (Live asked) = Unit {0}
+Fits (LivePair asked) = Unit {0}
 Fits (Make number lines ticks) = IsWithin 1 64 lines × IsWithin 1 most_drawn_ticks ticks
 Fits (Stream rate) = IsRate rate
 

@@ -14,6 +14,7 @@ pub mod Channels
 pub mod Pair
 pub mod OneWay
 pub mod Live
+pub mod LivePair
 pub mod Make
 pub mod Service
 pub mod Stream

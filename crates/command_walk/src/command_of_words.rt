@@ -7,8 +7,8 @@ ghost use Rattle.command_walk.specs.GivesByTask.{GivesFor};
 ghost use Rattle.command_walk.specs.WordsOfCommands.{task_at, usage, Fits, HandsBack};
 
 use crate::commands::{
-    au4, capture, channels, check, decode, fates, frames, gfp, h4, live, make, noise, one_way,
-    pair, service, stream, trace, walk,
+    au4, capture, channels, check, decode, fates, frames, gfp, h4, live, live_pair, make, noise,
+    one_way, pair, service, stream, trace, walk,
 };
 use crate::walk_end::WalkEnd;
 use command_parts::{Ran, Stop, tell_usage};
@@ -57,6 +57,8 @@ pub enum WalkCommand {
     /// `live`: answer a live text as it comes; `live trace`: with a line for each decision step; `live told`: with
     /// one for each line of the group whose code is another one than before, and how many frames wait.
     Live { tells: Asked },
+    /// `live pair`, `live pair trace`, `live pair told`: the same of a live text of both ways.
+    LivePair { tells: Asked },
     /// `make`: make the walk of the load of a number, of 1 to 64 lines and 1 to 1,000,000 ticks.
     Make { number: u64, lines: u8, ticks: u32 },
     /// `stream`: write the script lines of a client that sends at a rate.
@@ -85,6 +87,7 @@ impl FromWords for WalkCommand {
             .or(pair::words(words))
             .or(one_way::words(words))
             .or(live::words(words))
+            .or(live_pair::words(words))
             .or(make::words(words))
             .or(stream::words(words))
     }
@@ -121,6 +124,7 @@ pub(crate) fn run<S: ByteSource, K: ByteSink, E: ByteSink>(
         WalkCommand::Pair => pair::pair(alloc, script, out, notes),
         WalkCommand::OneWay { way } => one_way::one_way(alloc, way, script, out),
         WalkCommand::Live { tells } => live::live(alloc, tells, script, out),
+        WalkCommand::LivePair { tells } => live_pair::live_pair(alloc, tells, script, out),
         WalkCommand::Make {
             number,
             lines,
@@ -138,8 +142,8 @@ pub(crate) fn no_command<E: ByteSink>(notes: &mut E) -> WalkEnd
 {
     let text =
         b"usage: vcat_walk walk, trace, fates, check, h4 LINE, service INTERVAL, capture, gfp, frames, decode, noise, \
-        au4, channels, pair, pair there, pair back, live, live trace, live told, make NUMBER LINES TICKS, \
-        or stream OCTETS MBITS FIRST END NUMBER\n";
+        au4, channels, pair, pair there, pair back, live, live trace, live told, live pair, live pair trace, \
+        live pair told, make NUMBER LINES TICKS, or stream OCTETS MBITS FIRST END NUMBER\n";
     let status = tell_usage(text, notes);
     WalkEnd { status, walk: None }
 }

@@ -4,9 +4,11 @@ ghost use Rattle.law_model.specs.Common.{Appends};
 ghost use Rattle.law_headline.specs.Headline.{IsWalkHeadline};
 ghost use Rattle.walk_live.specs.Headline.{IsLiveHeadline};
 ghost use Rattle.walk_live.specs.declared.asked.Asked.{Asked};
+ghost use Rattle.pair_live.specs.PairHeadline.{IsLivePairHeadline};
 ghost use Rattle.command_parts.specs.Status.{HasRunAt};
 ghost use Rattle.command_parts.specs.Ends.{Ends, lent};
-ghost use Rattle.command_walk.specs.declared.command_of_words.WalkCommand.TheVariants.{Live, Pair};
+ghost use Rattle.command_walk.specs.declared.command_of_words.WalkCommand.TheVariants.{Live, LivePair};
+ghost use Rattle.command_walk.specs.declared.command_of_words.WalkCommand.TheVariants.{Pair};
 ghost use Rattle.command_walk.specs.commands.Pair.{TellsPair};
 ghost use Rattle.command_walk.specs.WordsOfCommands.{command_in, task_of, HandsBack, RunsScript};
 
@@ -27,9 +29,9 @@ use std::alloc::Global;
 /// 4 where an output can't be written, 7 where memory is short, and else 0. Of those that hold the first in
 /// this order is told; want of memory may come in the place of any but 2, before anything is written. A note
 /// says on `notes` what went wrong. After a fault nothing more is written but that note. At each status but 0
-/// and 4 nothing is written on `out`, but of `live`: there 8 comes where a line has more than 262,144 octets,
-/// or more comes behind line 67,108,864; what comes first in the text is told, and what is answered to the
-/// lines before stands.
+/// and 4 nothing is written on `out`, but of `live` and `live pair`: there 8 comes where a line has more than
+/// 262,144 octets, or more comes behind line 67,108,864; what comes first in the text is told, and what is
+/// answered to the lines before stands.
 pub fn walk_top<S: ByteSource, K: ByteSink, E: ByteSink>(
     alloc: Global,
     words: &[String],
@@ -63,6 +65,13 @@ pub fn walk_top<S: ByteSource, K: ByteSink, E: ByteSink>(
     ensures live { (asked : Asked) → command_in words.now ≡ Some (Live asked) → result.status ≡ 0 →
         IfSome (S.left script.old) (λ text. (written : List ℕ)
         × Appends K.written K.faults out.old out.new written × IsLiveHeadline asked text written) }
+
+    // That of a conversation of both ways: what is written are the answers to the lines of its text, and then the
+    // totals of each way; and afterwards there are two scripts that make a pair, of which the frames that are
+    // told of each way are the first that `pair` writes, so that the headline holds of both ways.
+    ensures live_pair { (asked : Asked) → command_in words.now ≡ Some (LivePair asked) → result.status ≡ 0 →
+        IfSome (S.left script.old) (λ text. (written : List ℕ)
+        × Appends K.written K.faults out.old out.new written × IsLivePairHeadline asked text written) }
 
     // The walk that is handed back has made all events of its script, also where a write failed.
     ensures handed { IfSome (command_in words.now) (λ command. HasRunAt result.status →

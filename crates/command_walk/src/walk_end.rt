@@ -14,7 +14,7 @@ pub struct WalkEnd {
     /// The exit status.
     pub status: u8,
     /// The walk that was made: of `walk`, `trace`, `fates`, `check`, `h4`, `service`, `capture`, `gfp` and `make` at
-    /// the statuses 0 and 4. That of `live` isn't handed back.
+    /// the statuses 0 and 4. That of `live` or `live pair` isn't handed back.
     pub walk: Option<Walk>,
 }
 

@@ -7,6 +7,8 @@ mod au4_command;
 #[cfg(test)]
 mod channels_command;
 #[cfg(test)]
+mod live_pair_rows;
+#[cfg(test)]
 mod live_rows;
 #[cfg(test)]
 mod noise_command;

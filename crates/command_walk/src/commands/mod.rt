@@ -10,6 +10,7 @@ pub(super) mod frames;
 pub(super) mod gfp;
 pub(super) mod h4;
 pub(super) mod live;
+pub(super) mod live_pair;
 pub(super) mod make;
 pub(super) mod noise;
 pub(super) mod one_way;

@@ -69,6 +69,9 @@ returns-in-OneWay g c = rw c.in-OneWay.is (alone _ _ _ _ _ _ refl c.one_way.ensu
 pub returns-in-Live : goal.returns-in-Live
 returns-in-Live g c = rw c.in-Live.is (c.live.ensures, refl)
 
+pub returns-in-LivePair : goal.returns-in-LivePair
+returns-in-LivePair g c = rw c.in-LivePair.is (c.live_pair.ensures, refl)
+
 pub returns-in-Make : goal.returns-in-Make
 returns-in-Make g c = rw c.in-Make.is (alone _ _ _ _ _ _ refl (beside _ _ _ _ _ refl c.make.ensures))
 

@@ -2,12 +2,12 @@
 use Rattle.std.proofs.Common.{◌≡◌, Option, Some, Err, refl, sym, ap, subst, rules, arith}
 use Rattle.command_parts.specs.Ends.{Ends, lent}
 use Rattle.command_walk.specs.declared.command_of_words.WalkCommand.{WalkCommand}
-use Rattle.command_walk.specs.declared.command_of_words.WalkCommand.TheVariants.{Live, Pair}
+use Rattle.command_walk.specs.declared.command_of_words.WalkCommand.TheVariants.{Live, LivePair, Pair}
 use Rattle.command_walk.specs.HandedWalk.{walk_of}
 use Rattle.command_walk.specs.WordsOfCommands.{command_in, task_at, task_for, HandsBack}
 use Rattle.command_walk.proofs.WalkCommandAndHeadlineLaws.{fits, not-run, any-command, no-such-command, ends-usage}
 use Rattle.command_walk.proofs.WalkCommandAndHeadlineLaws.{ends-wanting, headline-of, ends-for, run-for, some-command}
-use Rattle.command_walk.proofs.WalkCommandAndHeadlineLaws.{tells-pair, tells-live}
+use Rattle.command_walk.proofs.WalkCommandAndHeadlineLaws.{tells-pair, tells-live, tells-live-pair}
 use Rattle.command_walk.proofs.top_call.walk_top.Goals as goal
 
 -- ---- a command was run
@@ -31,6 +31,9 @@ returns-in-Ok g c =
       ways = λ is. tells-pair _ _ _ _ (subst P (let same : Some c.in-Ok.command ≡ Some Pair = cc in same) own);
       live = λ asked is.
           tells-live _ _ _ asked _ (subst P (let same : Some c.in-Ok.command ≡ Some (Live asked) = cc in same) own);
+      live_pair = λ asked is.
+          tells-live-pair _ _ _ asked _
+          (subst P (let same : Some c.in-Ok.command ≡ Some (LivePair asked) = cc in same) own);
       handed = some-command _ (command_in c.args.words.now) c.in-Ok.command known
           (λ at. rw c.end_of.ensures.walk (run-for _ _ _ _ c.args.notes.now c.run.new.notes c.end_of.new.notes _ _
           (task_at c.in-Ok.command)
