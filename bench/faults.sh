@@ -106,6 +106,7 @@ all_memory() {
     memory examples/hitless.vcat walk
     memory examples/hitless.vcat trace
     memory examples/live.vcat live
+    memory examples/live_pair.vcat live pair told
     memory examples/h4.hex decode
     memory /dev/null make 7 8 400
     memory examples/hitless.vcat run 3

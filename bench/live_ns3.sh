@@ -27,7 +27,7 @@ for ticks in 1 8 40; do
         failed=1
     fi
     for way in there back; do
-        if ! examples/live_script.py "$program" walk < "$work/said.$way.vcat" | "$program" fates | tail -n 1 | grep -q ' frames 45 got 45 lost 0 '; then
+        if ! examples/live_script.py --way "$way" "$program" walk < "$work/said.vcat" | "$program" fates | tail -n 1 | grep -q ' frames 45 got 45 lost 0 '; then
             echo "live_ns3: $ticks in an event: of the frames $way some are lost" >&2
             failed=1
         fi

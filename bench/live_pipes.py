@@ -103,10 +103,10 @@ def text_of(number):
 
 
 class Wanted:
-    """What a text is answered, by walks of its script."""
+    """What a text is answered, by walks of the script of what was said."""
 
-    def __init__(self, text, walker):
-        self.walker, self.said = walker, Said(text.replace("\r\n", "\n"))
+    def __init__(self, said, walker):
+        self.walker, self.said = walker, said
         self.counts = {}
         self.rounds = self.said.rounds(walker + ["walk"])
         whole = self.run("walk", self.rounds)
@@ -285,7 +285,7 @@ def try_texts(given):
     wrong, kinds = 0, {}
     for number in range(given.first, given.first + given.count):
         text = text_of(number)
-        wanted = Wanted(text, given.walker)
+        wanted = Wanted(Said(text.replace("\r\n", "\n")), given.walker)
         has_steps = number % 2 == 1
         answers = wanted.answers(text.replace("\r\n", "\n").split("\n"), has_steps)
         words = given.program + ["live"] + ["trace"] * has_steps
@@ -307,8 +307,8 @@ ROWS = [
     ("round 1\n", "", 5, f"fault: line 6: word\nhelp: a line begins with one of {FIRST_WORDS}\n"),
     ("add 0\nlost 0 1\n", "", 5, "fault: line 7: order\nhelp: fail and lost stands before live lines\n"),
     ("pass 2\nring 1\n", "now 2\n", 5, "fault: line 7: order\nhelp: configuration stands before live lines\n"),
-    ("pass\n", "", 5, "fault: line 6: word\nhelp: pass takes 1 words, and 0 follow\n"),
-    ("add 0 0\n", "", 5, "fault: line 6: word\nhelp: add takes 1 words, and 2 follow\n"),
+    ("pass\n", "", 5, "fault: line 6: word\nhelp: pass takes 1 word, and 0 follow\n"),
+    ("add 0 0\n", "", 5, "fault: line 6: word\nhelp: add takes 1 word, and 2 follow\n"),
     ("frame 0G\n", "", 5, "fault: line 6: hex\nhelp: word 2 is an even number of hexadecimal digits\n"),
     ("pass +1\n", "", 5, "fault: line 6: number\nhelp: word 2 is a number of one to ten digits\n"),
     ("pass 8\npass 2\n", "now 8\n", 5, "fault: line 7: range\nhelp: word 2 is from 1 to 1\n"),

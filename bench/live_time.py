@@ -1,12 +1,12 @@
 #!/usr/bin/env python3
 """Times `live` over pipes, and looks at its memory.
 
-live_time.py [--answers N] [--ticks N] [--busy N] [--most MILLISECONDS] [--program WORDS]
+live_time.py [--pair] [--answers N] [--ticks N] [--busy N] [--most MILLISECONDS] [--program WORDS]
 
 First `pass 1` is said 10,000 times beside busy processes, one for each processor, with a frame before each, and each answer is waited for: the slowest and
 the middle one are told. Then 1,000,000 ticks pass with a frame in each, of one line without failures: the resident memory behind the first thousand
-ticks and at the end, and its greatest. The status is 0 if the slowest answer came within 100 milliseconds, each frame came out, and the memory at the end
-is no more than behind the first thousand ticks. The program has to be built: rt ci."""
+ticks and at the end, and its greatest. With --pair it is `live pair`, with a frame each way. The status is 0 if the slowest answer came within 100
+milliseconds, each frame came out, and the memory at the end is no more than behind the first thousand ticks. The program has to be built: rt ci."""
 import argparse
 import os
 import pathlib
@@ -16,13 +16,19 @@ import time
 
 TOP = pathlib.Path(__file__).resolve().parent.parent
 PROGRAM = str(TOP / "crates/vcat_walk/out/vcat_walk")
-CONFIGURATION = "lines 1\ndelays 0\nring 1\nlag 2\nticks 1000000\nadd 0\n"
-FRAME = "frame " + "02000000000202000000000188b5" + "5a" * 50 + "\n"
+CONFIGURATION = "lines 1\ndelays 0\nring 1\nlag 2\nticks 1000000\n"
+DIGITS = "02000000000202000000000188b5" + "5a" * 50
+# The words, what is said first, and what is said in each tick.
+ONE_WAY = ["live"], CONFIGURATION + "add 0\n", f"frame {DIGITS}\npass 1\n"
+BOTH_WAYS = (["live", "pair"], CONFIGURATION + "other\n" + CONFIGURATION + "add there 0\nadd back 0\n",
+             f"frame there {DIGITS}\nframe back {DIGITS}\npass 1\n")
 AT_ONCE = 100  # ticks between two reads
 
 
-def start(program):
-    return subprocess.Popen(program + ["live"], stdin=subprocess.PIPE, stdout=subprocess.PIPE)
+def start(given):
+    talk = subprocess.Popen(given.program + given.words, stdin=subprocess.PIPE, stdout=subprocess.PIPE)
+    say(talk, given.first)
+    return talk
 
 
 def say(talk, text):
@@ -43,10 +49,10 @@ def hear(talk, ticks):
 def end(talk):
     """Ends the text; the frames that came, by the totals."""
     talk.stdin.close()
-    total = talk.stdout.read().split()
+    totals = talk.stdout.read().splitlines()
     if talk.wait() != 0:
         sys.exit(f"live_time: it has ended with status {talk.returncode}")
-    return int(total[-1])
+    return sum(int(total.split()[-1]) for total in totals)
 
 
 def memory(talk):
@@ -60,12 +66,11 @@ def time_answers(given):
     """The times of answers to single ticks, in order of length."""
     busy = [subprocess.Popen([sys.executable, "-c", "while True: pass"]) for _ in range(given.busy)]
     try:
-        talk = start(given.program)
-        say(talk, CONFIGURATION)
+        talk = start(given)
         times, got = [], 0
         for tick in range(1, given.answers + 1):
             began = time.monotonic()
-            say(talk, FRAME + "pass 1\n")
+            say(talk, given.tick)
             got += hear(talk, tick)
             times.append(time.monotonic() - began)
         if end(talk) != got:
@@ -80,11 +85,10 @@ def time_answers(given):
 
 def pass_ticks(given):
     """Memory after a thousand ticks and after all, the greatest, and the frames that came."""
-    talk = start(given.program)
-    say(talk, CONFIGURATION)
+    talk = start(given)
     passed, got, early = 0, 0, None
     while passed < given.ticks:
-        say(talk, (FRAME + "pass 1\n") * AT_ONCE)
+        say(talk, given.tick * AT_ONCE)
         passed += AT_ONCE
         got += hear(talk, passed)
         if passed == 1000:
@@ -97,6 +101,7 @@ def pass_ticks(given):
 
 def main():
     parser = argparse.ArgumentParser()
+    parser.add_argument("--pair", action="store_true")
     parser.add_argument("--answers", type=int, default=10_000)
     parser.add_argument("--ticks", type=int, default=1_000_000)
     parser.add_argument("--busy", type=int, default=os.cpu_count() or 1)
@@ -104,6 +109,7 @@ def main():
     parser.add_argument("--program", default=PROGRAM)
     given = parser.parse_args()
     given.program = given.program.split()
+    given.words, given.first, given.tick = BOTH_WAYS if given.pair else ONE_WAY
     if "/" in given.program[0] and not os.access(given.program[0], os.X_OK):
         print(f"live_time: {given.program[0]} is missing: run rt ci first", file=sys.stderr)
         return 1
@@ -115,7 +121,7 @@ def main():
     early, late, greatest, got = pass_ticks(given)
     seconds = time.monotonic() - began
     print(f"{given.ticks} ticks, {got} frames, {seconds:.1f} s: {early} KiB after 1,000 ticks, {late} at the end, {greatest} at most")
-    return 0 if slowest <= given.most and late <= early and got > given.ticks - 100 else 1
+    return 0 if slowest <= given.most and late <= early and got > given.tick.count("frame") * (given.ticks - 100) else 1
 
 
 if __name__ == "__main__":

@@ -1,23 +1,31 @@
 #!/usr/bin/env python3
 """Makes a script of what was said to `live`: of it `walk` writes the same frames, refused items and totals, and `fates` says what became of each.
 
-  live_script.py [PROGRAM WORDS..] < SAID > SCRIPT      for instance: live_script.py ./vcat walk < there.vcat | ./vcat fates
+  live_script.py [--way WAY] [PROGRAM WORDS..] < SAID > SCRIPT      for instance: live_script.py ./vcat walk < there.vcat | ./vcat fates
+
+Of what was said to `live pair` it makes the two scripts of a pair, with `other` between. `pair` goes on until all ticks have passed, so what came of
+each way is what `pair` writes first. With WAY, which is there or back, it makes the script of that way by itself, which ends where the text did: of
+it `walk` writes the same as of a text of one way.
 
 - What stood before the first live line stays: configuration, `fail`, `lost`.
 - A cut is a failure without slip, from the ticks that had passed by then to those that had passed when it was mended, or else by the end. Without
   a container between it is none.
 - A frame or a command is due at the ticks that had passed.
-- Event lines make as many rounds as these ticks took, and land all items.
+- Event lines make as many rounds as these ticks took, and land all items; the two scripts of a pair have none.
 
 Mostly a round makes a tick. At a lag that is hardly enough for the delays some don't; then PROGRAM WORDS, at first `./vcat walk`, is asked which
-is the least number of rounds that makes the ticks. A line that `live` refused has to be left out: it is told, with status 2.
+is the least number of rounds that makes the ticks. With WAY the script comes of `pair WAY` in the place of its last word. A line that `live` refused
+has to be left out: it is told, with status 2.
 """
+import argparse
 import pathlib
 import subprocess
 import sys
 
 WALK = [str(pathlib.Path(__file__).resolve().parent.parent / "vcat"), "walk"]
 MOST = 1_000_000  # what an event line may say
+WAYS = "there", "back"
+LIVE = "pass", "frame", "add", "remove", "cut", "mend"
 
 
 def refuse(why):
@@ -33,8 +41,32 @@ def lines_of(text):
             yield number, words
 
 
+def divide(text):
+    """The texts of both ways in a text of `live pair`, each as one of `live`, with the same numbers of lines; or the text itself."""
+    if not any(words == ["other"] for _, words in lines_of(text)):
+        return [text]
+    lines = {way: [""] * (text.count("\n") + 1) for way in WAYS}
+    now, is_live = WAYS[0], False
+    for number, words in lines_of(text):
+        line = " ".join(words)
+        is_known = len(words) > 1 and words[1] in WAYS if words[0] in LIVE[1:] else words[0] in LIVE or not is_live
+        if not is_known:
+            refuse(f"line {number} isn't one that live pair takes: {line[:60]}")
+        is_live |= words[0] in LIVE
+        if words == ["other"]:
+            now = WAYS[1]
+        elif words[0] == "pass":
+            for way in WAYS:
+                lines[way][number - 1] = line
+        elif words[0] in LIVE:
+            lines[words[1]][number - 1] = " ".join([words[0], *words[2:]])
+        else:
+            lines[now][number - 1] = line
+    return ["\n".join(lines[way]) for way in WAYS]
+
+
 class Said:
-    """What was said, as lines of a script."""
+    """What was said of one way, as lines of a script."""
 
     def __init__(self, text):
         self.settings, self.failures, self.items = [], [], []
@@ -51,7 +83,7 @@ class Said:
             self.mend(line)
 
     def line(self, word, *rest):
-        if word in ("pass", "cut", "mend", "frame", "add", "remove"):
+        if word in LIVE:
             self.is_live = True
         elif self.is_live:
             raise ValueError(word)
@@ -78,11 +110,14 @@ class Said:
         if first < self.passed:
             self.failures.append(f"fail {line} {first} {self.passed} 0")
 
+    def lines(self):
+        return [*self.settings, *self.failures, *self.items]
+
     def script(self, rounds):
         events = []
         for word, number in ("round", rounds), *((word, max(1, count)) for word, count in self.count.items()):
             events += [f"{word} {MOST}"] * (number // MOST) + [f"{word} {number % MOST}"] * (number % MOST > 0)
-        return "".join(line + "\n" for line in self.settings + self.failures + self.items + events)
+        return "".join(line + "\n" for line in self.lines() + events)
 
     def goes_by_the_clock(self):
         """Whether it is known that each round makes a tick: nothing slips, and the lag has a tick to spare."""
@@ -110,10 +145,39 @@ class Said:
         return enough
 
 
+def pair_of(ways):
+    """The two scripts of a pair."""
+    there, back = (said.lines() for said in ways)
+    return "".join(line + "\n" for line in [*there, "other", *back])
+
+
+def alone(ways, way, walk):
+    """What was said of a way, with the lines of its script by itself: what it didn't hear by the other way is lost."""
+    words = [*walk[:-1], "pair", way]
+    done = subprocess.run(words, input=pair_of(ways), stdout=subprocess.PIPE, text=True)
+    if done.returncode:
+        refuse(f"{' '.join(words)} refuses the scripts, with status {done.returncode}")
+    said = ways[WAYS.index(way)]
+    said.settings, said.failures, said.items = done.stdout.splitlines(), [], []
+    said.numbers["lag"] = [2 * said.numbers["lag"][0]]
+    return said
+
+
 def main():
+    parser = argparse.ArgumentParser(formatter_class=argparse.RawDescriptionHelpFormatter, description=__doc__)
+    parser.add_argument("--way", choices=WAYS, help="the way of a pair whose script is made")
+    parser.add_argument("walk", nargs=argparse.REMAINDER, metavar="PROGRAM WORDS", help="what walks a script; ./vcat walk unless it is said")
+    given = parser.parse_args()
     sys.stdin.reconfigure(newline="\n")
-    said = Said(sys.stdin.read())
-    sys.stdout.write(said.script(said.rounds(sys.argv[1:] or WALK)))
+    ways = [Said(text) for text in divide(sys.stdin.read())]
+    walk = given.walk or WALK
+    if given.way and len(ways) == 1:
+        refuse("a text of one way has no line other")
+    if len(ways) == 2 and not given.way:
+        sys.stdout.write(pair_of(ways))
+        return
+    said = alone(ways, given.way, walk) if given.way else ways[0]
+    sys.stdout.write(said.script(said.rounds(walk)))
 
 
 if __name__ == "__main__":

@@ -42,13 +42,20 @@ completion() {
     cat << END
 _vcat() {
     local word=\${COMP_WORDS[COMP_CWORD]} words=
-    case \$COMP_CWORD,\${COMP_WORDS[1]} in
+    case "\$COMP_CWORD,\${COMP_WORDS[*]:1:COMP_CWORD-1}" in
     1,*) words="$(commands | awk '{ print $3 }' | tr '\n' ' ')help --version" ;;
 END
-    commands | awk 'match($0, /\[[^]]*\]/) {
-        words = substr($0, RSTART + 1, RLENGTH - 2)
-        gsub(/[|]/, " ", words)
-        print "    2," $3 ") words=\"" words "\" ;;"
+    # Of a second group the words also stand behind each word of the first.
+    commands | awk '{
+        for (n = 0; match($0, /\[[^]]*\]/); $0 = substr($0, RSTART + RLENGTH)) {
+            if (n == 0) name = $3
+            group[++n] = substr($0, RSTART + 1, RLENGTH - 2)
+            gsub(/[|]/, " ", group[n])
+        }
+        if (n == 0) next
+        print "    \"2," name "\") words=\"" group[1] (n > 1 ? " " group[2] : "") "\" ;;"
+        count = n > 1 ? split(group[1], word, " ") : 0
+        for (i = 1; i <= count; i++) print "    \"3," name " " word[i] "\") words=\"" group[2] "\" ;;"
     }'
     cat << 'END'
     esac

@@ -4,9 +4,9 @@
   link.py [OPTIONS]      for instance: link.py --lines 2 --delays 40 --run 'ip netns exec $A ping -c 5 10.77.0.2'
 
 Each namespace has one TAP device, tap0, with the address 10.77.0.1 or 10.77.0.2, and nothing else. Frames that leave the first go there, to the second, and
-those of the second go back. CMD is a text for a shell, to which $A and $B are the names of the namespaces, and starts once the members are in use. All ends
-with CMD, by its status; without CMD with --seconds or Ctrl-C. At each end the namespaces are deleted. Root, /dev/net/tun and `ip` are needed: where
-something is missing, the status is 77.
+those of the second go back, by one process `live pair told`. CMD is a text for a shell, to which $A and $B are the names of the namespaces, and starts
+once the members are in use. All ends with CMD, by its status; without CMD with --seconds or Ctrl-C. At each end the namespaces are deleted. Root that may
+make namespaces, /dev/net/tun and `ip` are needed: where something is missing, the status is 77.
 """
 import argparse
 import contextlib
@@ -96,7 +96,16 @@ def find_missing(run: str | None) -> str | None:
         return f"there is no {TUN}"
     programs = ["ip", *re.findall(r"netns exec \S+ ([\w./-]+)", run or "")]
     absent = [program for program in programs if not shutil.which(program)]
-    return f"there is no {absent[0]}" if absent else None
+    if absent:
+        return f"there is no {absent[0]}"
+    try:
+        os.close(os.open(TUN, os.O_RDWR))
+    except OSError as error:
+        return f"{TUN} can't be opened: {error.strerror}"
+    trial = f"vcat-{os.getpid()}"
+    made = subprocess.run(["ip", "netns", "add", trial], stderr=subprocess.PIPE, text=True)
+    subprocess.run(["ip", "netns", "delete", trial], stderr=subprocess.DEVNULL)
+    return f"no namespace can be made: {made.stderr.strip()}" if made.returncode else None
 
 
 def ip(words: str) -> str:

@@ -40,10 +40,6 @@ std::string Configuration(int lines, int delay)
         text << " " << delay;
     }
     text << "\nring 1\nlag " << (17 + delay + 15) / 16 << "\nticks 100000000\n";
-    for (int line = 0; line < lines; line++)
-    {
-        text << "add " << line << "\n";
-    }
     return text.str();
 }
 
@@ -61,11 +57,11 @@ int main(int argc, char* argv[])
     command.AddValue("lines", "lines of each way, VC-3s", lines);
     command.AddValue("delay", "the delay of each line in ticks of 125 us", delay);
     command.AddValue("pass", "the ticks that pass in an event", ticks);
-    command.AddValue("keep", "the prefix of the texts that are kept", prefix);
+    command.AddValue("keep", "the prefix of the text that is kept", prefix);
     command.Parse(argc, argv);
 
     NodeContainer nodes(2);
-    Ptr<LiveChannel> channel = CreateObject<LiveChannel>(program, Configuration(lines, delay), prefix, ticks);
+    Ptr<LiveChannel> channel = CreateObject<LiveChannel>(program, Configuration(lines, delay), lines, prefix, ticks);
     NetDeviceContainer devices = SimpleNetDeviceHelper().Install(nodes, channel);
     for (uint32_t i = 0; i < devices.GetN(); i++)
     {

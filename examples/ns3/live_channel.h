@@ -1,4 +1,4 @@
-// A channel of ns-3 between two devices whose frames go through a virtually concatenated group, a process `live` for each way.
+// A channel of ns-3 between two devices whose frames go through a virtually concatenated group, a process `live pair`.
 //
 // A frame is said when a device sends it. Each `ticks` ticks of 125 microseconds an event lets as many pass in both ways, and hands the frames that come
 // out to the other device. A packet becomes octets and a packet again, so it loses its tags.
@@ -18,12 +18,12 @@
 #include <unistd.h>
 #include <vector>
 
-// One way of a group behind pipes. Neither side waits for a full pipe.
-class LiveGroup
+// Both ways of a group behind pipes. Neither side waits for a full pipe.
+class LivePair
 {
   public:
-    // What is said is kept in a file, if one is named, of which examples/live_script.py makes a script.
-    LiveGroup(std::string program, const std::string& configuration, const std::string& kept)
+    // Both ways have the same configuration. What is said is kept in a file, if one is named, of which examples/live_script.py makes scripts.
+    LivePair(std::string program, const std::string& configuration, const std::string& kept)
     {
         if (!kept.empty())
         {
@@ -38,8 +38,9 @@ class LiveGroup
         posix_spawn_file_actions_init(&actions);
         posix_spawn_file_actions_adddup2(&actions, input[0], STDIN_FILENO);
         posix_spawn_file_actions_adddup2(&actions, output[1], STDOUT_FILENO);
-        std::string word = "live";
-        char* words[] = {program.data(), word.data(), nullptr};
+        std::string live = "live";
+        std::string pair = "pair";
+        char* words[] = {program.data(), live.data(), pair.data(), nullptr};
         NS_ABORT_MSG_IF(posix_spawn(&m_process, program.c_str(), &actions, nullptr, words, environ), "there is no program " << program);
         posix_spawn_file_actions_destroy(&actions);
         close(input[0]);
@@ -48,8 +49,8 @@ class LiveGroup
         m_output = output[0];
         fcntl(m_input, F_SETFL, O_NONBLOCK);
         fcntl(m_output, F_SETFL, O_NONBLOCK);
-        m_unsent = configuration;
-        m_kept << configuration;
+        m_unsent = configuration + "other\n" + configuration;
+        m_kept << m_unsent;
     }
 
     // Says a line, which is sent once ticks pass.
@@ -81,7 +82,7 @@ class LiveGroup
         }
     }
 
-    // Ends the text, and gives the line of totals.
+    // Ends the text, and gives the line of totals of each way.
     std::string End()
     {
         while (!m_unsent.empty())
@@ -132,12 +133,17 @@ class LiveGroup
 class LiveChannel : public ns3::SimpleChannel
 {
   public:
-    // With a prefix, what is said there, from the first device to the second, is kept in PREFIX.there.vcat, and what is said back in PREFIX.back.vcat.
-    LiveChannel(const std::string& program, const std::string& configuration, const std::string& prefix, uint64_t ticks)
-        : m_ways{{program, configuration, prefix.empty() ? "" : prefix + ".there.vcat"},
-                 {program, configuration, prefix.empty() ? "" : prefix + ".back.vcat"}},
+    // Frames go there from the first device to the second. All lines of the configuration are members, each way. With a prefix, what is said is kept in
+    // PREFIX.vcat.
+    LiveChannel(const std::string& program, const std::string& configuration, int lines, const std::string& prefix, uint64_t ticks)
+        : m_pair(program, configuration, prefix.empty() ? "" : prefix + ".vcat"),
           m_ticks(ticks)
     {
+        for (int line = 0; line < lines; line++)
+        {
+            m_pair.Say("add there " + std::to_string(line));
+            m_pair.Say("add back " + std::to_string(line));
+        }
         Schedule();
     }
 
@@ -158,19 +164,19 @@ class LiveChannel : public ns3::SimpleChannel
         {
             frame.push_back(fcs >> shift & 0xff);
         }
-        std::string line = "frame ";
+        std::string line = GetDevice(0) == sender ? "frame there " : "frame back ";
         for (uint8_t octet : frame)
         {
             line += DIGITS[octet >> 4];
             line += DIGITS[octet & 15];
         }
-        m_ways[GetDevice(0) == sender ? 0 : 1].Say(line);
+        m_pair.Say(line);
     }
 
-    // Ends both texts, and gives their lines of totals.
+    // Ends the text, and gives the lines of totals.
     std::string End()
     {
-        return "there: " + m_ways[0].End() + "back: " + m_ways[1].End();
+        return m_pair.End();
     }
 
     uint64_t GetRefused() const
@@ -196,17 +202,14 @@ class LiveChannel : public ns3::SimpleChannel
 
     void PassTicks()
     {
-        std::vector<std::string> answers[] = {m_ways[0].Pass(m_ticks), m_ways[1].Pass(m_ticks)};
-        for (int way : {0, 1})
+        for (const std::string& answer : m_pair.Pass(m_ticks))
         {
-            for (const std::string& answer : answers[way])
+            if (answer.compare(0, 4, "got ") == 0)
             {
-                if (answer.compare(0, 4, "got ") == 0)
-                {
-                    Deliver(answer.substr(answer.find(' ', 4) + 1), ns3::DynamicCast<ns3::SimpleNetDevice>(GetDevice(1 - way)));
-                }
-                m_refused += answer.compare(0, 8, "refused ") == 0;
+                int receiver = answer.compare(4, 6, "there ") == 0 ? 1 : 0;
+                Deliver(answer.substr(answer.rfind(' ') + 1), ns3::DynamicCast<ns3::SimpleNetDevice>(GetDevice(receiver)));
             }
+            m_refused += answer.compare(0, 8, "refused ") == 0;
         }
         Schedule();
     }
@@ -239,7 +242,7 @@ class LiveChannel : public ns3::SimpleChannel
         receiver->Receive(ns3::Create<ns3::Packet>(&frame[HEADER], length), protocol, to, from);
     }
 
-    LiveGroup m_ways[2];
+    LivePair m_pair;
     uint64_t m_ticks;
     uint64_t m_refused = 0;
     uint64_t m_wrongFcs = 0;
