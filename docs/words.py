@@ -15,6 +15,7 @@ USAGES = {"vcat_walk": "command_walk/src/command_of_words.rt", "vcat_run": "comm
 KEYWORDS = {
     "script": "text_scripts/src/script_read/script_keyword.rt",
     "live": "text_live/src/live_keyword.rt",
+    "live-pair": "text_live/src/live_keyword.rt",
     "noise": "gfp_noise/src/noise_link/noise_keyword.rt",
     "channels": "gfp_channels/src/channel_link/channel_keyword.rt",
     "au4": "member_au4/src/au4_link/au4_keyword.rt",
@@ -38,9 +39,12 @@ def rows(table):
 
 
 def forms_of(form):
-    """A form without the word that may be left out, and with each that may stand there."""
-    match = re.search(r" \[(.*)\]", form)
-    return {form.replace(match[0], word) for word in ("", *(" " + word for word in match[1].split("|")))} if match else {form}
+    """A form without the words that may be left out, and with each that may stand there."""
+    match = re.search(r" \[(.*?)\]", form)
+    if not match:
+        return {form}
+    words = ("", *(" " + word for word in match[1].split("|")))
+    return {each for word in words for each in forms_of(form.replace(match[0], word))}
 
 
 def main():
