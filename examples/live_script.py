@@ -15,7 +15,7 @@ it `walk` writes the same as of a text of one way.
 
 Mostly a round makes a tick. At a lag that is hardly enough for the delays some don't; then PROGRAM WORDS, at first `./vcat walk`, is asked which
 is the least number of rounds that makes the ticks. With WAY the script comes of `pair WAY` in the place of its last word. A line that `live` refused
-has to be left out: it is told, with status 2.
+is told, with status 2: it has to be left out, with all behind it.
 """
 import argparse
 import pathlib
@@ -71,7 +71,7 @@ class Said:
     def __init__(self, text):
         self.settings, self.failures, self.items = [], [], []
         self.numbers, self.slips = {}, False
-        self.passed, self.cut_at = 0, {}
+        self.passed, self.cut_at, self.ends = 0, {}, {}  # of each line when it was cut, and where its last failure ends
         self.count = {"client": 0, "operator": 0}
         self.is_live = False
         for number, words in lines_of(text):
@@ -87,28 +87,42 @@ class Said:
             self.is_live = True
         elif self.is_live:
             raise ValueError(word)
-        if word == "pass":
-            self.passed += int(rest[0])
+        if word in LIVE:
+            (value,) = rest
             ticks, _, _ = (self.numbers[word][0] for word in ("ticks", "delays", "lag"))
-            if int(rest[0]) < 1 or self.passed > ticks:
+            if word != "pass" and self.passed >= ticks:
+                raise ValueError(self.passed)
+        if word == "pass":
+            self.passed += int(value)
+            if int(value) < 1 or self.passed > ticks:
                 raise ValueError(self.passed)
         elif word == "cut":
-            self.cut_at[int(rest[0])] = self.passed
+            self.cut(int(value))
         elif word == "mend":
-            self.mend(int(rest[0]))
+            self.mend(int(value))
         elif word in ("frame", "add", "remove"):
-            self.items.append(f"{word} {self.passed} {rest[0]}")
+            if not (bytes.fromhex(value) if word == "frame" else 0 <= int(value) <= 255):
+                raise ValueError(value)
+            self.items.append(f"{word} {self.passed} {value}")
             self.count["client" if word == "frame" else "operator"] += 1
         else:
             self.settings.append(" ".join((word, *rest)))
             if word not in ("container", "sink"):
                 self.numbers[word] = [int(part) for part in rest]
-                self.slips |= word == "fail" and self.numbers[word][3] > 0
+            if word == "fail":
+                line, _, self.ends[line], slip = self.numbers[word]
+                self.slips |= slip > 0
+
+    def cut(self, line):
+        if line in self.cut_at or not 0 <= line < self.numbers["lines"][0] or self.passed < self.ends.get(line, 0):
+            raise ValueError(line)
+        self.cut_at[line] = self.passed
 
     def mend(self, line):
         first = self.cut_at.pop(line)
         if first < self.passed:
             self.failures.append(f"fail {line} {first} {self.passed} 0")
+            self.ends[line] = self.passed
 
     def lines(self):
         return [*self.settings, *self.failures, *self.items]

@@ -173,6 +173,12 @@ class LiveChannel : public ns3::SimpleChannel
         m_pair.Say(line);
     }
 
+    // Says a line of the text, for instance `cut there 0`, before the next ticks pass.
+    void Say(const std::string& line)
+    {
+        m_pair.Say(line);
+    }
+
     // Ends the text, and gives the lines of totals.
     std::string End()
     {
