@@ -28,7 +28,7 @@ use Rattle.law_live.proofs.BothWaysAnswerLaws.{item-on, lands-keeps, queues-to, 
 use Rattle.law_live.proofs.BothWaysCountLaws.{BothStand, begun, live-said, said-reached, stand-one, way-stands}
 use Rattle.law_live.proofs.ConversationCountAndScriptLaws.{Stands, later-all}
 use Rattle.law_live.proofs.QueueAndRoomLaws.{Reckons, met, next-refusal, none-wait, past-offers, reckons-land, refusal-full}
-use Rattle.law_live.proofs.QueueAndRoomLaws.{refusal-room}
+use Rattle.law_live.proofs.QueueAndRoomLaws.{refusal-room, sum-few}
 
 module _ (one other : Script) (pair : IsPair one other) where
   abbrev plan : PairPlan
@@ -190,6 +190,9 @@ module _ (one other : Script) (pair : IsPair one other) where
               (counts_on (pair_counts one other said) way) (both_reckoned one other said way)
           by There is = is
           by Back is = is
+
+      pub both-few : (both_reckoned one other said way).queue + (both_reckoned one other said way).since ≤ 256
+      both-few = sum-few (leg_on one other way) live now (both_reckoned one other said way) reckons
 
       later : HasLater live (leg_on one other way).items
       later = by way

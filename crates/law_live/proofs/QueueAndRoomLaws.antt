@@ -345,6 +345,15 @@ reckons-none : (config : Config) (leg : Leg) →
 unfolding stream_before
 reckons-none config leg = record { queue = sym (none-wait leg); sum = refl }
 
+-- ---- no more than 256 in all
+pub sum-few : (leg : Leg) (live : Live) (s : Counts) (is : Reckoned) → Reckons leg live s is → is.queue + is.since ≤ 256
+sum-few leg live s is reckons =
+    let few = folded-few (come live.passed (offers_of live.items))
+    (stream_before (scenario_by leg) (session_of leg) live.passed)
+    (stream-few (scenario_by leg) (session_of leg) live.passed) in
+    let sum = reckons.sum in
+    omega (arith, few, sum)
+
 -- ---- in a leg that agrees
 module _ (config : Config) (leg : Leg) (sound : IsSound leg) (said : List Saying) (well : IsWellSaid config said)
     (agrees : Agrees config (live_of config said) leg)
@@ -357,13 +366,7 @@ module _ (config : Config) (leg : Leg) (sound : IsSound leg) (said : List Saying
         (begin-fits plan.slow plan.fast plan.slip (walk_plan leg) plan.is) agrees.items (reckons-none config leg)
 
     pub reckoned-few : (reckoned leg said).queue + (reckoned leg said).since ≤ 256
-    reckoned-few =
-        let live : Live = live_of config said in
-        let few = folded-few (come live.passed (offers_of live.items))
-        (stream_before (scenario_by leg) (session_of leg) live.passed)
-        (stream-few (scenario_by leg) (session_of leg) live.passed) in
-        let sum = reckons.sum in
-        omega (arith, few, sum)
+    reckoned-few = sum-few leg (live_of config said) (live_counts leg said) (reckoned leg said) reckons
 
 -- ---- a frame that is said next
 pub refusal-room : (octets : List ℕ) (stream : Stream) → 64 ≤ length octets → length octets ≤ 9600 →

@@ -30,7 +30,7 @@ unfoldable pub use Rattle.law_live.specs.PairSayingCounts.{after_turns, turns_un
 pub use Rattle.law_live.specs.PairAnswers.{PairAnswer, way_told, both_at, leg_on, steps_told, frames_told, turn_answers}
 pub use Rattle.law_live.specs.PairAnswers.{queue_told, both_end, both_answer, pair_answers, answer_on, answers_on, pair_time_of, pair_times}
 pub use Rattle.law_live.specs.PairAnswers.{way_word, refused_way_text}
-pub use Rattle.law_live.specs.PairAnswers.{got_way_text, member_way_text, queue_way_text, told_way, way_answer_text}
+pub use Rattle.law_live.specs.PairAnswers.{got_way_text, member_way_text, queue_way_text, way_answer_text}
 pub use Rattle.law_live.specs.PairAnswers.{pair_answer_text, pair_answers_text, total_way_text, totals_on, last_pair_text}
 pub use Rattle.law_live.specs.PairAnswers.{reckoned_by, both_reckoned}
 unfoldable pub use Rattle.law_live.specs.PairAnswers.{turns_answers, pair_answers_from, both_reckoned_from}

@@ -17,8 +17,8 @@ use Rattle.law_pair.specs.PairWalk.{pair_plan}
 use Rattle.law_live.specs.LiveAnswers.{Answer, refused_item, step_made, got_at, queue_at, now_at, item_answers}
 use Rattle.law_live.specs.LiveAnswers.{steps_between}
 use Rattle.law_live.specs.LiveAnswers.{Telling, now_text, time_of, waiting_at}
-use Rattle.law_live.specs.LiveMembers.{MemberTold, members_in}
-use Rattle.law_live.specs.LiveQueue.{Reckoned, changed_number, reckoned_to}
+use Rattle.law_live.specs.LiveMembers.{MemberTold}
+use Rattle.law_live.specs.LiveQueue.{Reckoned, reckoned_to}
 use Rattle.law_live.specs.LiveSayings.{Saying}
 use Rattle.law_live.specs.PairSayings.{PairSaying, lands_on, cuts_on, mends_on, both_pass, if_on, saying_on}
 use Rattle.law_live.specs.PairSayingCounts.{turn_both, turns_for, both_said, pair_counts}
@@ -135,13 +135,6 @@ member_way_text way told =
 
 abbrev pub queue_way_text : Way → ℕ → List ℕ
 queue_way_text way waiting = codes "queue " ++ way_word way ++ codes " " ++ decimal waiting ++ codes "\n"
-
--- of a way, where its members and its queue are told
-abbrev pub told_way : Script → Script → Way → Telling
-told_way there back way = record {
-  step = λ j. flat_map (member_way_text way) (members_in (leg_on there back way) j);
-  queue = λ was now. flat_map (queue_way_text way) (changed_number was now);
-}
 
 -- where this is told of each way
 abbrev pub way_answer_text : Telling → Way → Answer → List ℕ

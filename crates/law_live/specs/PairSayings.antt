@@ -43,7 +43,7 @@ abbrev pub config_on : Config → Config → Way → Config
 config_on there back There = there
 config_on there back Back = back
 
--- no return packet is lost by itself, a way has twice the lag, and both make as many ticks
+-- no return packet is lost by itself, the lags of both ways are the same and at most 256, and both make as many ticks
 pub record IsPairNetwork (there back : Config) : Type 0 where
   pub there_network : IsNetwork there
   pub back_network : IsNetwork back

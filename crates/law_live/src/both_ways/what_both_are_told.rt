@@ -40,8 +40,8 @@ pub fn both_told_law()
 {}
 
 /// In a pair that agrees with what was said: by the number that was told last of a way, and how many frames were said
-/// of it since and not refused, whoever says the frames knows how many more may be said. A frame of 64 to 9,600 octets
-/// that is said next is refused exactly where these are 256: so it is at 256, and isn't below.
+/// of it since and not refused, whoever says the frames knows how many more may be said: these are at most 256. A frame
+/// of 64 to 9,600 octets that is said next is refused exactly where they are 256: so it is at 256, and isn't below.
 pub fn both_room_law()
     ensures room { (there back : Config) (said : List PairSaying) (octets : List ℕ)
         (one other : Script) (way : Way) → IsPair one other → IsPairSaid there back said →
@@ -56,4 +56,8 @@ pub fn both_room_law()
         (let number = length (live_of (config_on there back way) (said_on way said)).items in
         pair_answers_from one other (pair_counts one other said) (lands_on way (Frame octets) ∷ [])
         ≡ way_told way (refused_item number (frame_fault (QueueFull 256))) ∷ []) }
+    ensures within { (there back : Config) (said : List PairSaying) (one other : Script)
+        (way : Way) → IsPair one other → IsPairSaid there back said →
+        PairAgrees there back said one other →
+        (both_reckoned one other said way).queue + (both_reckoned one other said way).since ≤ 256 }
 {}

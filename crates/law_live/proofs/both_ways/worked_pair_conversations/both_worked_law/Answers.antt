@@ -4,7 +4,8 @@ use Rattle.std.specs.Fmt.{digits}
 use Rattle.hex.specs.Hex.{encode_with}
 use Rattle.law_model.specs.members.Damage.{carried}
 use Rattle.law_model.specs.Common.{are_whole, after, keep, none_kept, cells_before}
-use Rattle.law_model.specs.Common.{stream_before}
+use Rattle.law_model.specs.Common.{delineate_within, hunt_within, number_behind, path, place_of, reaching, read_on}
+use Rattle.law_model.specs.Common.{rows_of, segments_on, stream_before}
 use Rattle.law_model.specs.Common.{held, full, pop, pop_lines, frame_dues, command_dues}
 use Rattle.law_model.specs.Common.{sum_delays}
 use Rattle.law_walk.specs.Common.{landed_from}
@@ -57,10 +58,16 @@ unfolding live_from pair_answers_from after keep none_kept cells_before stream_b
     frame_dues command_dues left_after first_due pair_run carries_on turns_answers turns_until after_turns sum_delays
 returns-clause-refused c = refl
 
+pub returns-clause-order : goal.returns-clause-order
+unfolding live_from pair_answers_from stream_before held full frame_dues command_dues left_after first_due pair_run
+    carries_on turns_answers turns_until after_turns sum_delays pop pop_lines runs_of place_of reaching rows_of
+    segments_on delineate_within hunt_within path read_on number_behind carried
+returns-clause-order c = refl
+
 pub returns-clause-refused_text : goal.returns-clause-refused_text
 unfolding digits
 returns-clause-refused_text c = refl
 
-pub returns-clause-order : goal.returns-clause-order
+pub returns-clause-texts : goal.returns-clause-texts
 unfolding digits encode_with
-returns-clause-order c = refl
+returns-clause-texts c = refl
