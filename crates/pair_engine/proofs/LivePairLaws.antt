@@ -1,7 +1,7 @@
--- What the calls of a live pair leave for each two scripts for which it stands (GoesOn): an item, a carry, a row, a
--- tick of both ways, and a round's second half.
-use Rattle.std.proofs.Common.{◌≡◌, ℕ, ◌+◌, ◌<◌, ◌≤◌, nat_le, nat_lt, Bool, true, false, if◌then◌else◌, List, [], ◌∷◌}
-use Rattle.std.proofs.Common.{◌++◌, length, slice_get, Option, Some, None, option_map, refl, sym, ◌∙◌, ap, ap₂, subst}
+-- What the calls of a live pair leave for each two scripts for which it stands (GoesOn): an item, a carry, a row, and a
+-- tick of both ways.
+use Rattle.std.proofs.Common.{◌≡◌, ℕ, ◌+◌, ◌<◌, ◌≤◌, nat_le, nat_lt, Bool, true, false, if◌then◌else◌, length}
+use Rattle.std.proofs.Common.{slice_get, Option, Some, None, option_map, refl, sym, ◌∙◌, ap, ap₂, subst}
 use Rattle.std.proofs.Common.{arith, le-ltb}
 use Rattle.law_model.specs.Common.{Counts, Leg, command_due, frame_due}
 use Rattle.law_model.specs.declared.item_refusals.Refusal.{Refusal}
@@ -14,14 +14,13 @@ use Rattle.law_model.specs.declared.walk_events.StallCause.TheVariants.{Done, He
 use Rattle.law_model.specs.session.Scenario.{packets_in}
 use Rattle.law_live.specs.Common.{leg_on}
 use Rattle.law_walk.specs.Common.{is_client}
-use Rattle.law_pair.specs.Common.{IsPairWalked, PairCounts, PairPlan, carries_on, counts_on}
-use Rattle.law_pair.specs.Common.{first_way, held_at, landed, or_else, pair_begin, pair_plan, pair_run, pair_step}
+use Rattle.law_pair.specs.Common.{IsPairWalked, PairCounts, PairPlan, counts_on}
+use Rattle.law_pair.specs.Common.{first_way, held_at, landed, or_else, pair_begin, pair_plan, pair_step}
 use Rattle.law_pair.specs.Common.{plan_on, tick_by, tick_cause, way_of, with_counts}
-use Rattle.law_pair.specs.declared.pair_events.PairEvent.{PairEvent}
 use Rattle.law_pair.specs.declared.pair_events.PairEvent.TheVariants.{Item, Carry, Take}
 use Rattle.law_pair.specs.declared.pair_events.Way.{Way}
 use Rattle.law_pair.specs.declared.pair_events.Way.TheVariants.{There, Back}
-use Rattle.law_pair.proofs.PairMeasureAndDrainLaws.{pair-steps, run-append}
+use Rattle.law_pair.proofs.PairMeasureAndDrainLaws.{pair-steps}
 use Rattle.walk_engine.specs.Common.{IsAlike, IsDue, Makes, Parts, StandsForSome, answer_by, counts_after, counts_of}
 use Rattle.walk_engine.specs.Common.{landing_of, next_in, refusal_in_event, stall_by, windows_in}
 use Rattle.walk_engine.specs.declared.walk_core.step_answers.Moved.{Moved}
@@ -34,7 +33,7 @@ use Rattle.pair_engine.specs.WayCalls.{CanTickBoth, IsStill, Keeps, TakesRow, la
 use Rattle.pair_engine.specs.Ways.{IsNewLive, with_both_lags}
 use Rattle.pair_engine.proofs.LiveWayLaws.{new-pair-counts, new-pair-lives, seen-lives, still-lives, ticks-together}
 use Rattle.pair_engine.proofs.LiveWayLaws.{way-alike}
-use Rattle.pair_engine.proofs.PairEventAndRoundLaws.{paths-size, run-none, run-one}
+use Rattle.pair_engine.proofs.PairEventAndRoundLaws.{paths-size}
 
 -- ---- one way, in its place
 abbrev pub with_way : PairWalking → Way → WayWalking → PairWalking
@@ -356,25 +355,6 @@ ticks-both one other pair now can goes = record {
   counts = goes.counts
       ∙ ap (λ (found : Option (Way × StallCause)). (tick_by found (walking_counts pair)).counts) (sym can.free);
 }
-
--- ---- each line once, and a row each way
-pub finish-run : (plan : PairPlan) (s lines_there lines_back one two : PairCounts) →
-    lines_there ≡ pair_run plan s (carries_on There 0 plan.there.paths) →
-    lines_back ≡ pair_run plan lines_there (carries_on Back 0 plan.back.paths) →
-    one ≡ (pair_step plan lines_back (Take There)).counts → two ≡ (pair_step plan one (Take Back)).counts →
-    two ≡ pair_run plan s (carries_on There 0 plan.there.paths
-    ++ (carries_on Back 0 plan.back.paths ++ Take There ∷ Take Back ∷ []))
-finish-run plan s lines_there lines_back one two a b c d =
-    let last : List PairEvent = Take There ∷ Take Back ∷ [] in
-    let backs : List PairEvent = carries_on Back 0 plan.back.paths ++ last in
-    d ∙ ap (λ n. (pair_step plan n (Take Back)).counts) c
-    ∙ sym (run-none plan (pair_step plan (pair_step plan lines_back (Take There)).counts (Take Back)).counts)
-    ∙ sym (run-one plan (pair_step plan lines_back (Take There)).counts (Take Back) [])
-    ∙ sym (run-one plan lines_back (Take There) (Take Back ∷ []))
-    ∙ ap (λ n. pair_run plan n last) b
-    ∙ sym (run-append plan lines_there (carries_on Back 0 plan.back.paths) last)
-    ∙ ap (λ n. pair_run plan n backs) a
-    ∙ sym (run-append plan s (carries_on There 0 plan.there.paths) backs)
 
 -- ---- before any event
 module _ (there back : Config) (one other : Script) (pair : PairWalking) (over : IsPairOver there back one other)

@@ -46,12 +46,12 @@ use Rattle.walk_engine.proofs.WayEventAndToldSourceLaws.{landing-stays}
 
 -- ---- Rounds of a pair: items land until they stall, each line is tried once, and so for the rest.
 -- ---- events one after another
-pub run-one : (pair : PairPlan) (s : PairCounts) (event : PairEvent) (events : List PairEvent) →
+run-one : (pair : PairPlan) (s : PairCounts) (event : PairEvent) (events : List PairEvent) →
     pair_run pair s (event ∷ events) ≡ pair_run pair (pair_step pair s event).counts events
 unfolding pair_run
 run-one pair s event events = refl
 
-pub run-none : (pair : PairPlan) (s : PairCounts) → pair_run pair s [] ≡ s
+run-none : (pair : PairPlan) (s : PairCounts) → pair_run pair s [] ≡ s
 unfolding pair_run
 run-none pair s = refl
 

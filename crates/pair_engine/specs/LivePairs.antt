@@ -1,6 +1,6 @@
 -- A pair without its scripts: what it holds, the pairs of scripts for which it stands, and what its calls do in each of
 -- them.
-use Rattle.std.specs.Prelude.{◌≡◌, ℕ, ◌≤◌, List, [], ◌∷◌, ◌++◌, if◌then◌else◌, Option, option_map}
+use Rattle.std.specs.Prelude.{◌≡◌, ℕ, ◌≤◌, List, if◌then◌else◌, Option, option_map}
 use Rattle.law_model.specs.Common.{Counts, Due, command_due, frame_due, used_in}
 use Rattle.law_model.specs.declared.window_types.Window.{Window}
 use Rattle.law_model.specs.declared.script_types.Config.{Config}
@@ -8,11 +8,11 @@ use Rattle.law_model.specs.declared.script_types.ItemKind.{ItemKind}
 use Rattle.law_model.specs.declared.script_types.Script.{Script}
 use Rattle.law_model.specs.session.Scenario.{packets_in}
 use Rattle.law_walk.specs.Common.{is_client, last_packet}
-use Rattle.law_pair.specs.Common.{IsPair, IsPairWalked, PairCounts, carries_on, counts_on, landed, pair_plan, pair_run}
+use Rattle.law_pair.specs.Common.{IsPair, IsPairWalked, PairCounts, counts_on, landed, pair_plan}
 use Rattle.law_pair.specs.Common.{pair_step, with_counts}
 use Rattle.law_pair.specs.declared.pair_events.Way.{Way}
 use Rattle.law_pair.specs.declared.pair_events.Way.TheVariants.{There, Back}
-use Rattle.law_pair.specs.declared.pair_events.PairEvent.TheVariants.{Item, Tick, Take}
+use Rattle.law_pair.specs.declared.pair_events.PairEvent.TheVariants.{Item, Tick}
 use Rattle.law_live.specs.Common.{leg_on}
 use Rattle.walk_engine.specs.Common.{AgreesAt, IsDue, IsNoneHeld, Parts, counts_of, note_of, windows_in}
 use Rattle.walk_engine.specs.declared.walk_core.step_answers.StepNote.{StepNote}
@@ -110,7 +110,7 @@ pub record LandsNext (one other : Script) (way : Way) (s : PairCounts) (kind : I
   pub lands : (pair_step (pair_plan one other) s (Item way)).counts
       ≡ with_counts way (landed (due_as kind 0) (counts_on s way)) s
 
--- ---- a round in two halves
+-- ---- a round
 -- of the containers that are made next, the windows of its lines say what those of the scripts do
 abbrev pub PairAgreesNow : Script → Script → PairWalking → Type 0
 PairAgreesNow one other pair = (way : Way) →
@@ -134,13 +134,6 @@ pub record GoesOn (one other : Script) (next : PairCounts) (now : PairWalking) :
 -- a tick of both ways was tried
 abbrev pub TicksBoth : Script → Script → PairWalking → PairWalking → Type 0
 TicksBoth one other was now = GoesOn one other (pair_step (pair_plan one other) (walking_counts was) Tick).counts now
-
--- a carry of each line there and then back, a row there and a row back, each once
-abbrev pub FinishesTurn : Script → Script → PairWalking → PairWalking → Type 0
-FinishesTurn one other was now =
-    GoesOn one other (pair_run (pair_plan one other) (walking_counts was)
-    (carries_on There 0 (pair_plan one other).there.paths
-    ++ (carries_on Back 0 (pair_plan one other).back.paths ++ Take There ∷ Take Back ∷ []))) now
 
 -- the windows of no line have changed
 abbrev pub SameWindows : PairWalking → PairWalking → Type 0

@@ -5,14 +5,13 @@ ghost use Rattle.law_model.specs.Common.{steps_in};
 ghost use Rattle.law_model.specs.declared.script_types.Script.{Script};
 ghost use Rattle.law_pair.specs.Common.{carries_on, counts_on, pair_begin, pair_plan, pair_run, pair_step, plan_on};
 ghost use Rattle.law_pair.specs.declared.pair_events.PairEvent.TheVariants.{Item, Carry, Take};
-ghost use Rattle.law_pair.specs.declared.pair_events.Way.TheVariants.{There as THERE, Back as BACK};
 ghost use Rattle.law_live.specs.Common.{leg_on, IsPairNetwork};
 ghost use Rattle.law_walk.specs.Common.{is_client, last_packet, table_in, totals_of};
 ghost use Rattle.member_path.specs.failure_window.OpenWindows.{CanClose, closed_at, last_end, opened_at};
 ghost use Rattle.terminal_group.specs.Item.{kind_of};
 ghost use Rattle.walk_engine.specs.Common.{GivesRows, HasWindows, landing_of, note_of, refusal_in_event};
 ghost use Rattle.walk_engine.specs.Common.{waiting_in};
-ghost use Rattle.pair_engine.specs.LivePairs.{CanTurn, FinishesTurn, GoesOn, IsLivePair, IsPairOver, IsShownAs};
+ghost use Rattle.pair_engine.specs.LivePairs.{CanTurn, GoesOn, IsLivePair, IsPairOver, IsShownAs};
 ghost use Rattle.pair_engine.specs.LivePairs.{LandsNext};
 ghost use Rattle.pair_engine.specs.LivePairs.{PairLives, SameWindows, TicksBoth, walking_counts, walking_on};
 ghost use Rattle.pair_engine.specs.LivePairs.{way_beside, windows_of_way};
@@ -86,7 +85,8 @@ impl LivePair {
         }
     }
 
-    /// Tries a tick of both ways alone. With `finish_round` behind it, it is a round.
+    /// Tries a tick of both ways alone. With `carry_all` there and then back behind it, and then `take` there and then
+    /// back, it is a round.
     pub fn tick(&mut self)
         requires ready { (one : Script) × (other : Script) × CanTurn one other self.old }
         requires left { self.old.there.core.source.core.ticks < self.old.there.core.source.total }
@@ -100,28 +100,7 @@ impl LivePair {
         }
     }
 
-    /// Tries a carry of each line there and then back, and a row there and a row back, each once. Frames that a row
-    /// delivers are given to the place of its way; by then no more ticks are made than before.
-    pub fn finish_round<F: FrameOut, G: FrameOut>(&mut self, there: &mut F, back: &mut G)
-        requires { IsLivePair self.old }
-        ensures finishes { (one other : Script) → PairLives one other self.old →
-            FinishesTurn one other self.old self.new }
-        ensures windows { SameWindows self.old self.new }
-        ensures gives_there { (one other : Script) → PairLives one other self.old →
-            GivesRows F.stands_for there.old there.new (leg_on one other THERE)
-            (walking_counts self.old).there.rows (walking_counts self.new).there.rows }
-        ensures gives_back { (one other : Script) → PairLives one other self.old →
-            GivesRows G.stands_for back.old back.new (leg_on one other BACK)
-            (walking_counts self.old).back.rows (walking_counts self.new).back.rows }
-    {
-        self.carry_all(Way::There);
-        self.carry_all(Way::Back);
-        self.take(Way::There, there);
-        self.take(Way::Back, back);
-    }
-
-    /// Tries a carry of each line of a way, from the first to the last, each once. No row is taken. Called there and
-    /// then back behind `tick`, with `take` there and then back behind them, it does what `finish_round` does.
+    /// Tries a carry of each line of a way, from the first to the last, each once. No row is taken.
     pub fn carry_all(&mut self, way: Way)
         requires { IsLivePair self.old }
         ensures carries { (one other : Script) → PairLives one other self.old →
@@ -203,7 +182,7 @@ impl LivePair {
         }
     }
 
-    /// How many ticks were made, in each way as many.
+    /// How many ticks were made there; back as many.
     pub fn ticks(&self) -> u32
         ensures { result ≡ (walking_counts self.now).there.ticks }
     {
@@ -233,9 +212,8 @@ impl LivePair {
         }
     }
 
-    /// The last decision step of a way, where one was made: its number, and the return cell that it took. A cell that
-    /// isn't lost holds the nibbles of the packet of the other way that told it, of which the status octet, the first
-    /// two, and RS-Ack, the third, are those of the return packet.
+    /// The last decision step of a way, where one was made: its packet, and what is shown of the return cell that it
+    /// took: its statuses and RS-Ack.
     pub fn last_step(&self, way: Way) -> Option<StepNote>
         ensures last { result ≡ (walking_on self.now way).last }
         ensures step { (one other : Script) → PairLives one other self.now →

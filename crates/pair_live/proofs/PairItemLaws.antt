@@ -26,7 +26,7 @@ use Rattle.walk_live.proofs.SaidItemAndFailureLaws.{IsNext, next-due, refusal-is
 use Rattle.walk_live.specs.declared.asked.Asked.{Asked}
 use Rattle.pair_engine.specs.LivePairs.{GoesOn, LandsNext, PairLives, PairWalking, SameWindows, due_as}
 use Rattle.pair_engine.specs.LivePairs.{walking_counts, way_beside}
-use Rattle.pair_live.specs.PairAnswered.{ArePairOf, CountsOn, IsPairAnswered, live_on, numbers_on}
+use Rattle.pair_live.specs.PairAnswered.{ArePairOf, CountsOn, IsPairAnswered, live_said_on, numbers_on}
 use Rattle.pair_live.specs.PairReplies.{pair_answer_to, pair_telling}
 use Rattle.pair_live.specs.declared.answered_pair.AnsweredPair.{AnsweredPair}
 use Rattle.pair_live.specs.declared.answered_pair.WayNumbers.{WayNumbers}
@@ -72,10 +72,10 @@ module _ (pair : AnsweredPair) (asked : Asked) (there back : Config) (said : Lis
     land-own : ArePairOf there back all one_all other_all
     land-own = own-pair there back all is.network well
 
-    land-live : live_on there back of all ≡ live_after (live_on there back of said) (lands kind)
+    land-live : live_said_on there back of all ≡ live_after (live_said_on there back of said) (lands kind)
     land-live = live-own (config_on there back of) of said (lands_on of kind) (lands kind) (lands-own of kind)
 
-    land-beside : live_on there back (way_beside of) all ≡ live_on there back (way_beside of) said
+    land-beside : live_said_on there back (way_beside of) all ≡ live_said_on there back (way_beside of) said
     land-beside =
         live-beside (config_on there back (way_beside of)) (way_beside of) said (lands_on of kind) (lands-beside of
         kind)
@@ -90,12 +90,13 @@ module _ (pair : AnsweredPair) (asked : Asked) (there back : Config) (said : Lis
       land-counts : walking_counts pair.pair ≡ pair_counts one other said
       land-counts = is.walks.counts one other land-less
 
-      land-stands : Stands (live_on there back of said) (counts_on (pair_counts one other said) of)
+      land-stands : Stands (live_said_on there back of said) (counts_on (pair_counts one other said) of)
       land-stands = stands-on there back said one other land-less is.well of
 
       land-next : IsNext (leg_on one other of) (counts_on (pair_counts one other said) of) kind
       land-next =
-          stands-next (leg_on one other of) (live_on there back of said) (counts_on (pair_counts one other said) of)
+          stands-next (leg_on one other of) (live_said_on there back of said)
+          (counts_on (pair_counts one other said) of)
           land-stands (later-on there back said one other land-less of) kind
           (said-next one other are.pair there back said of kind well are.agrees)
 
@@ -104,7 +105,8 @@ module _ (pair : AnsweredPair) (asked : Asked) (there back : Config) (said : Lis
           (pair_counts one other said)
       land-step =
           lands-then one other (pair_counts one other said) kind of
-          (way-lands (leg_on one other of) (live_on there back of said) (counts_on (pair_counts one other said) of) kind
+          (way-lands (leg_on one other of) (live_said_on there back of said)
+          (counts_on (pair_counts one other said) of) kind
           land-stands
           (subst (λ (l : Live). HasLater l (leg_on one other of).items) land-live
           (later-on there back all one other are of)))
@@ -130,13 +132,13 @@ module _ (pair : AnsweredPair) (asked : Asked) (there back : Config) (said : Lis
           ≡ (counts_on (pair_counts one other said) of).frames + (counts_on (pair_counts one other said) of).commands
       land-number =
           is.items of
-          ∙ sym (stands-number (leg_on one other of) (live_on there back of said)
+          ∙ sym (stands-number (leg_on one other of) (live_said_on there back of said)
           (counts_on (pair_counts one other said) of) land-stands)
 
     -- the number of items can be counted
-    land-size : length (live_on there back of all).items ≡ (numbers_on pair of).items + 1
+    land-size : length (live_said_on there back of all).items ≡ (numbers_on pair of).items + 1
     land-size =
-        let live : Live = live_on there back of said in
+        let live : Live = live_said_on there back of said in
         let whole = ap (λ (l : Live). length l.items) land-live in
         let sum = length-append live.items (item_at live.passed kind ∷ []) in
         let items = is.items of in
@@ -159,13 +161,14 @@ module _ (pair : AnsweredPair) (asked : Asked) (there back : Config) (said : Lis
     land-answered was now kept counted goes' same' =
         let goes = subst (λ p. Goes p now.pair) kept goes' in
         let same = subst (λ p. SameWindows p now.pair) kept same' in
-        let passed : (way : Way) → (live_on there back way all).passed ≡ (live_on there back way said).passed =
-        each-way (λ way. (live_on there back way all).passed ≡ (live_on there back way said).passed) of
+        let passed : (way : Way) → (live_said_on there back way all).passed
+        ≡ (live_said_on there back way said).passed =
+        each-way (λ way. (live_said_on there back way all).passed ≡ (live_said_on there back way said).passed) of
         (ap (λ (l : Live). l.passed) land-live) (ap (λ (l : Live). l.passed) land-beside) in
-        let course : (way : Way) (m : ℕ) → course_at (live_on there back way all) m
-        ≡ course_at (live_on there back way said) m =
-        each-way (λ way. (m : ℕ) → course_at (live_on there back way all) m
-        ≡ course_at (live_on there back way said) m) of
+        let course : (way : Way) (m : ℕ) → course_at (live_said_on there back way all) m
+        ≡ course_at (live_said_on there back way said) m =
+        each-way (λ way. (m : ℕ) → course_at (live_said_on there back way all) m
+        ≡ course_at (live_said_on there back way said) m) of
         (λ m. ap (λ (l : Live). course_at l m) land-live) (λ m. ap (λ (l : Live). course_at l m) land-beside) in
         record {
           network = is.network;
@@ -182,12 +185,13 @@ module _ (pair : AnsweredPair) (asked : Asked) (there back : Config) (said : Lis
           lines = each-way (λ way. (numbers_on now way).lines ≡ (config_on there back way).lines) of
               (ap (λ (n : WayNumbers). n.lines) counted.own ∙ is.lines of)
               (ap (λ (n : WayNumbers). n.lines) counted.beside ∙ is.lines (way_beside of));
-          items = each-way (λ way. (numbers_on now way).items ≡ length (live_on there back way all).items) of
+          items = each-way (λ way. (numbers_on now way).items ≡ length (live_said_on there back way all).items) of
               (ap (λ (n : WayNumbers). n.items) counted.own ∙ sym land-size)
               (ap (λ (n : WayNumbers). n.items) counted.beside ∙ is.items (way_beside of)
               ∙ sym (ap (λ (l : Live). length l.items) land-beside));
           waiting = each-way (λ way. (one other : Script) → ArePairOf there back all one other →
-              (numbers_on now way).waiting ≡ waiting_at (leg_on one other way) (live_on there back way all).passed) of
+              (numbers_on now way).waiting
+              ≡ waiting_at (leg_on one other way) (live_said_on there back way all).passed) of
               (λ one other are.
               ap (λ (n : WayNumbers). n.waiting) counted.own ∙ is.waiting of one other (land-less one other are)
               ∙ sym (ap (waiting_at (leg_on one other of)) (passed of)))

@@ -45,7 +45,7 @@ use Rattle.pair_walk.specs.declared.pair_script.script_pair.ScriptPair.{ScriptPa
 use Rattle.pair_walk.specs.pair_script.PairTextLines.{is_division}
 use Rattle.pair_walk.specs.pair_script.PairOfText.{limits_fault}
 use Rattle.pair_walk.proofs.PairScriptReaderLaws.{pair_fits}
-use Rattle.pair_live.specs.declared.live_pair_fault.PairLineFault.TheVariants as fault
+use Rattle.pair_live.specs.declared.live_pair_fault.PairLineFault.TheVariants as line_wrong
 use Rattle.pair_live.specs.PairLines.{BothLive, PairSaid, of_script, of_limits, of_live, undivided}
 use Rattle.pair_live.specs.PairLines.{setting, there_config, back_config}
 use Rattle.pair_live.specs.PairLines.{pair_divides, pair_divided, settings_pair, pair_opening_fault}
@@ -284,10 +284,10 @@ can_of_way : (k : ℕ) (s : PairSaid) (w : LiveKeyword) (v : List ℕ) (named : 
 can_of_way k s w v None other has none = absurd cc
 can_of_way k s w v (Some There) other has none =
     can_there k (there_config s) (back_config s) (both_now s) w v other has
-    (map_none fault.Live (value_fault (there_config s) (both_now s).there w 3 v) none)
+    (map_none line_wrong.Live (value_fault (there_config s) (both_now s).there w 3 v) none)
 can_of_way k s w v (Some Back) other has none =
     can_back k (there_config s) (back_config s) (both_now s) w v other has
-    (map_none fault.Live (value_fault (back_config s) (both_now s).back w 3 v) none)
+    (map_none line_wrong.Live (value_fault (back_config s) (both_now s).back w 3 v) none)
 
 can_pass : (k : ℕ) (there back : Config) (both : BothLive) (ws : List (List ℕ)) → HasBoth k there back both →
     rest_fault there both.there word.Pass ws ≡ None →
@@ -310,12 +310,12 @@ can_words : (k : ℕ) (s : PairSaid) (w : LiveKeyword) (ws : List (List ℕ)) (p
     CanBoth (there_config s) (back_config s) (both_now s) (pair_live_told w ws)
 can_words k s word.Pass ws true is has none =
     can_pass k (there_config s) (back_config s) (both_now s) ws has
-    (map_none fault.Live (rest_fault (there_config s) (both_now s).there word.Pass ws) none)
+    (map_none line_wrong.Live (rest_fault (there_config s) (both_now s).there word.Pass ws) none)
 can_words k s w ws true is has none = absurd cc
 can_words k s w ws false is has none =
     rw is
     (can_of_way k s w (word_at 1 ws) (way_named (word_at 0 ws)) is has
-    (or_none (where_true (not (length ws == 2)) (fault.Count w (length ws)))
+    (or_none (where_true (not (length ws == 2)) (line_wrong.Count w (length ws)))
     (way_fault s w (word_at 1 ws) (way_named (word_at 0 ws))) (rw is at none)).1)
 
 -- ---- Lines one after another.

@@ -20,7 +20,7 @@ use Rattle.walk_live.proofs.AnsweredWalkAndSayingLaws.{agrees-passing, can-one}
 use Rattle.walk_live.specs.Answered.{IsLegOf}
 use Rattle.walk_live.specs.declared.asked.Asked.{Asked}
 use Rattle.pair_engine.specs.LivePairs.{CanTurn, PairLives, PairWalking, SameWindows, walking_counts, windows_of_way}
-use Rattle.pair_live.specs.PairAnswered.{ArePairOf, IsPairAnswered, WalksAsPair, live_on, numbers_on}
+use Rattle.pair_live.specs.PairAnswered.{ArePairOf, IsPairAnswered, WalksAsPair, live_said_on, numbers_on}
 use Rattle.pair_live.specs.PairPassing.{CanPassBoth, IsOtherPair, turns_text}
 use Rattle.pair_live.specs.PairReplies.{pair_answer_to, pair_telling, queue_lines_on}
 use Rattle.pair_live.specs.declared.answered_pair.AnsweredPair.{AnsweredPair}
@@ -66,7 +66,7 @@ module _ (pair : AnsweredPair) (asked : Asked) (there back : Config) (said : Lis
     abbrev other_all : Script
     other_all = script_on back Back all
 
-    can-pass-on : (way : Way) → IsPass (config_on there back way).ticks (live_on there back way said) k
+    can-pass-on : (way : Way) → IsPass (config_on there back way).ticks (live_said_on there back way said) k
     can-pass-on way =
         can-one (config_on there back way) (said_on way said) (passes k)
         (well-own (config_on there back way) way said (both_pass k) (passes k) (pass-own way k) (well way))
@@ -77,7 +77,7 @@ module _ (pair : AnsweredPair) (asked : Asked) (there back : Config) (said : Lis
     pub pass-are : ArePairOf there back all one_all other_all
     pass-are = own-pair there back all is.network well
 
-    pass-live : (way : Way) → live_on there back way all ≡ live_after (live_on there back way said) (passes k)
+    pass-live : (way : Way) → live_said_on there back way all ≡ live_after (live_said_on there back way said) (passes k)
     pass-live way = live-own (config_on there back way) way said (both_pass k) (passes k) (pass-own way k)
 
     pub can-pass-both : (until : ℕ) → until ≡ (walking_counts pair.pair).there.ticks + k →
@@ -92,10 +92,11 @@ module _ (pair : AnsweredPair) (asked : Asked) (there back : Config) (said : Lis
       pub pass-less : ArePairOf there back said one other
       pass-less = fewer there back said (both_pass k ∷ []) one other well are
 
-      pass-stands : (way : Way) → Stands (live_on there back way said) (counts_on (pair_counts one other said) way)
+      pass-stands : (way : Way) → Stands (live_said_on there back way said) (counts_on (pair_counts one other said) way)
       pass-stands = stands-on there back said one other pass-less is.well
 
-      pass-stands-all : (way : Way) → Stands (live_on there back way all) (counts_on (pair_counts one other all) way)
+      pass-stands-all : (way : Way) →
+          Stands (live_said_on there back way all) (counts_on (pair_counts one other all) way)
       pass-stands-all = stands-on there back all one other are well
 
       -- of the containers that are made then its lines say what those of each pair do
@@ -114,7 +115,7 @@ module _ (pair : AnsweredPair) (asked : Asked) (there back : Config) (said : Lis
       }
 
       agrees-then : (now : PairWalking) → SameWindows pair.pair now → (way : Way) (t : ℕ) →
-          t < (live_on there back way said).passed + k → AgreesAt (leg_on one other way) t (windows_of_way now way)
+          t < (live_said_on there back way said).passed + k → AgreesAt (leg_on one other way) t (windows_of_way now way)
       agrees-then now same There t low =
           agrees-passing there (said_on There said) k t (leg_of one) (windows_of_way now There) is.network.there_network
           (well-own there There said (both_pass k) (passes k) (pass-own There k) (well There)) leg-there
@@ -124,7 +125,7 @@ module _ (pair : AnsweredPair) (asked : Asked) (there back : Config) (said : Lis
           (well-own back Back said (both_pass k) (passes k) (pass-own Back k) (well Back)) leg-back
           (λ m few. ap (λ l. slice_index_or l m []) (same Back) ∙ is.walks.windows Back m few) low
 
-      passed-as : (way : Way) → (live_on there back way said).passed ≡ both_passed there said
+      passed-as : (way : Way) → (live_said_on there back way said).passed ≡ both_passed there said
       passed-as way =
           sym (now-ticks pair asked there back said is way)
           ∙ lives-together one other pair.pair (is.walks.lives one other pass-less) way
@@ -190,7 +191,7 @@ module _ (pair : AnsweredPair) (asked : Asked) (there back : Config) (said : Lis
         (one other : Script) → ArePairOf there back all one other → (way : Way) →
         waiting way ≡ waiting_at (leg_on one other way) (counts_on (pair_counts one other all) way).ticks
     pass-waits now waiting walks waits one other are way =
-        let live : Live = live_on there back way said in
+        let live : Live = live_said_on there back way said in
         waits one other (walks.lives one other are) way
         ∙ ap (λ s. waiting_in (leg_on one other way) (counts_on s way)) (walks.counts one other are)
         ∙ stands-wait (leg_on one other way) live k (counts_on (pair_counts one other all) way) (can-pass-on way).some
@@ -214,7 +215,7 @@ module _ (pair : AnsweredPair) (asked : Asked) (there back : Config) (said : Lis
       lines = by-way (λ way. (numbers_on now way).lines ≡ (config_on there back way).lines)
           (ap (λ (p : AnsweredPair). p.there.lines) kept ∙ ap (λ (n : WayNumbers). n.lines) same.there ∙ is.lines There)
           (ap (λ (p : AnsweredPair). p.back.lines) kept ∙ ap (λ (n : WayNumbers). n.lines) same.back ∙ is.lines Back);
-      items = by-way (λ way. (numbers_on now way).items ≡ length (live_on there back way all).items)
+      items = by-way (λ way. (numbers_on now way).items ≡ length (live_said_on there back way all).items)
           (ap (λ (p : AnsweredPair). p.there.items) kept ∙ ap (λ (n : WayNumbers). n.items) same.there ∙ is.items There
           ∙ sym (ap (λ (l : Live). length l.items) (pass-live There)))
           (ap (λ (p : AnsweredPair). p.back.items) kept ∙ ap (λ (n : WayNumbers). n.items) same.back ∙ is.items Back

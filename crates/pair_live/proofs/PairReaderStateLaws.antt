@@ -33,9 +33,9 @@ use Rattle.text_live.proofs.LiveReaderStateLaws.{one_fine}
 use Rattle.pair_walk.specs.declared.pair_script.script_pair.PairFault.{PairFault}
 use Rattle.pair_walk.specs.pair_script.PairOfText.{limits_fault}
 use Rattle.pair_live.specs.declared.live_pair_fault.PairLineFault.{PairLineFault}
-use Rattle.pair_live.specs.declared.live_pair_fault.PairLineFault.TheVariants as fault
+use Rattle.pair_live.specs.declared.live_pair_fault.PairLineFault.TheVariants as line_wrong
 use Rattle.pair_live.specs.declared.live_pair_fault.LivePairFault.{LivePairFault}
-use Rattle.pair_live.specs.declared.live_pair_fault.LivePairFault.TheVariants as stop
+use Rattle.pair_live.specs.declared.live_pair_fault.LivePairFault.TheVariants as text_wrong
 use Rattle.pair_live.specs.declared.live_pair_line.LivePairLine.{LivePairLine}
 use Rattle.pair_live.specs.declared.live_pair_line.LivePairLine.TheVariants as line
 use Rattle.pair_live.specs.declared.read_pair_line.BothStates.{BothStates}
@@ -99,7 +99,7 @@ opening_stops n s ws rest k f stays is told = record {
 
 pub rest_stops : (n : ℕ) (s : PairSaid) (ws rest : List (List ℕ)) (k : LiveKeyword) (f : PairLineFault) →
     pair_divides s ws ≡ false → IsLiveLine ws k rest → pair_opening_fault s ≡ None →
-    pair_rest_fault s k rest ≡ Some f → IsPairToldAt n (pair_line_fault s ws) (stop.Line n f)
+    pair_rest_fault s k rest ≡ Some f → IsPairToldAt n (pair_line_fault s ws) (text_wrong.Line n f)
 rest_stops n s ws rest k f stays is none found = record {
   wrong = of_live f;
   fails = live_fault s ws rest k stays is ∙ ap (live_with s k rest) none ∙ ap (option_map of_live) found;
@@ -141,7 +141,7 @@ opening_with s missing none =
 pub limits_told : (before : Option Script) (reader : ScriptReader) (s : PairSaid) (there back : Script)
     (f : PairFault) → SaysSettings before reader s → before ≡ Some there → missing_line (drafted reader) ≡ None →
     back ≡ script_in (drafted reader) → Some f ≡ limits_fault (record { there = there; back = back }) →
-    IsPairToldAt (next_number reader) (opening_by None s) (stop.Pair f)
+    IsPairToldAt (next_number reader) (opening_by None s) (text_wrong.Pair f)
 limits_told before reader s there back f says some whole script found =
     let first = first_is s.first there (sym some ∙ says.before) in
     let missing : missing_line s.settings ≡ None = sym (ap missing_line says.now) ∙ whole in
@@ -237,7 +237,7 @@ two way w = way ∷ w ∷ []
 
 way_line_is : (s : PairSaid) (k : LiveKeyword) (ws : List (List ℕ)) (named w : List ℕ) (way : Way) →
     ws ≡ two named w → Some way ≡ way_named named →
-    way_line_fault s k ws ≡ option_map fault.Live (value_fault (config_in s way) (live_on (both_now s) way) k 3 w)
+    way_line_fault s k ws ≡ option_map line_wrong.Live (value_fault (config_in s way) (live_on (both_now s) way) k 3 w)
 way_line_is s k ws named w way is names =
     ap (way_line_fault s k) is ∙ ap (way_fault s k w) (sym names)
 
@@ -261,7 +261,7 @@ pub reads_of_way : (now : BothStates) (state : LiveState) (octets : List ℕ) (s
     told_pair_line octets of ≡ told_of_way way (told_line octets said) →
     KeepsPair now s (both_after (both_now s) (of_way way (live_said k w))) → ReadsBoth now octets s k ws of
 reads_of_way now state octets s k ws named w way said of other is names read told keeps = record {
-  fine = rest_is s k ws other ∙ way_line_is s k ws named w way is names ∙ ap (option_map fault.Live) read.fine;
+  fine = rest_is s k ws other ∙ way_line_is s k ws named w way is names ∙ ap (option_map line_wrong.Live) read.fine;
   told = told ∙ ap (told_of_way way) read.told
       ∙ ap (λ (saying : PairSaying). happens saying) (sym (told_is k ws named w way other is names));
   keeps = subst (λ (saying : PairSaying). KeepsPair now s (both_after (both_now s) saying))
@@ -291,19 +291,19 @@ reads_back old state octets s k ws named w said of other is names keeps read tol
 pub way_stops : (s : PairSaid) (k : LiveKeyword) (ws : List (List ℕ)) (named w : List ℕ) (way : Way)
     (f : LiveLineFault) → ws ≡ two named w → Some way ≡ way_named named →
     value_fault (config_in s way) (live_on (both_now s) way) k 3 w ≡ Some f →
-    way_line_fault s k ws ≡ Some (fault.Live f)
+    way_line_fault s k ws ≡ Some (line_wrong.Live f)
 way_stops s k ws named w way f is names found =
-    way_line_is s k ws named w way is names ∙ ap (option_map fault.Live) found
+    way_line_is s k ws named w way is names ∙ ap (option_map line_wrong.Live) found
 
 pub unnamed_stops : (s : PairSaid) (k : LiveKeyword) (ws : List (List ℕ)) (named w : List ℕ) → ws ≡ two named w →
-    None ≡ way_named named → way_line_fault s k ws ≡ Some fault.Way
+    None ≡ way_named named → way_line_fault s k ws ≡ Some line_wrong.Way
 unnamed_stops s k ws named w is names = ap (way_line_fault s k) is ∙ ap (way_fault s k w) (sym names)
 
 pub count_stops : (s : PairSaid) (k : LiveKeyword) (ws : List (List ℕ)) → length ws ≢ 2 →
-    way_line_fault s k ws ≡ Some (fault.Count k (length ws))
+    way_line_fault s k ws ≡ Some (line_wrong.Count k (length ws))
 count_stops s k ws other =
     let two : (length ws == 2) ≡ false = grind (arith, nat_tests, other) in
-    ap (λ (same : Bool). option_or (where_true (not same) (fault.Count k (length ws)))
+    ap (λ (same : Bool). option_or (where_true (not same) (line_wrong.Count k (length ws)))
     (way_fault s k (word_at 1 ws) (way_named (word_at 0 ws)))) two
 
 -- ticks pass
@@ -323,7 +323,8 @@ reads_pass now octets s ws w n one read keeps =
       keeps_back = keeps;
     }) in
     record {
-      fine = ap (option_map fault.Live) (one_fine (there_config s) (both_now s).there word.Pass ws w one read.fine);
+      fine = ap (option_map line_wrong.Live)
+          (one_fine (there_config s) (both_now s).there word.Pass ws w one read.fine);
       told = ap (λ (n : ℕ). happens (both_pass n)) said;
       keeps = subst (λ (n : ℕ). KeepsPair now s (both_after (both_now s) (both_pass n))) said both;
     }

@@ -22,7 +22,7 @@ use Rattle.walk_live.proofs.PassRoundsLaws.{bound-small}
 use Rattle.walk_live.proofs.TimedLineWritingLaws.{holds-more, holds-none, part-longer, part-more}
 use Rattle.walk_live.specs.declared.asked.Asked.{Asked}
 use Rattle.pair_engine.specs.LivePairs.{AreNoneHeld, GoesOn, PairLives, PairWalking, walking_counts}
-use Rattle.pair_live.specs.PairAnswered.{ArePairOf, live_on}
+use Rattle.pair_live.specs.PairAnswered.{ArePairOf, live_said_on}
 use Rattle.pair_live.specs.PairPassing.{turn_text}
 use Rattle.pair_live.specs.PairReplies.{pair_telling}
 use Rattle.pair_live.proofs.PairStandLaws.{fewer, live-own, pass-own}
@@ -165,7 +165,7 @@ module _ (there back : Config) (said : List PairSaying) (k : ℕ) (one other : S
 
     -- of a way what was said says nothing more that is due
     later : (way : Way) →
-        HasLater (live_after (live_on there back way said) (passes k)) (leg_on one other way).items
+        HasLater (live_after (live_said_on there back way said) (passes k)) (leg_on one other way).items
     later There =
         subst (λ live. HasLater live one.items) (live-own there There said (both_pass k) (passes k) (pass-own There k))
         are.agrees.there_agrees.items

@@ -25,7 +25,7 @@ use Rattle.walk_engine.specs.walk_parts.Ringed.{Ringed}
 use Rattle.walk_live.proofs.AnsweredWalkAndSayingLaws.{live-one, nothing-well}
 use Rattle.pair_engine.specs.LivePairs.{IsPairOver, PairLives, PairWalking, walking_counts, walking_on, way_beside}
 use Rattle.pair_engine.specs.LivePairs.{windows_of_way}
-use Rattle.pair_live.specs.PairAnswered.{ArePairOf, WalksAsPair, live_on}
+use Rattle.pair_live.specs.PairAnswered.{ArePairOf, WalksAsPair, live_said_on}
 
 -- ---- both ways
 pub by-way : (P : Way → Type 0) → P There → P Back → (way : Way) → P way
@@ -74,12 +74,12 @@ module _ (there back : Config) (said : List PairSaying) (one other : Script) (ar
     lines-on There = ap (λ (c : Config). c.lines) are.agrees.there_agrees.network
     lines-on Back = ap (λ (c : Config). c.lines) are.agrees.back_agrees.network
 
-    pub later-on : (way : Way) → HasLater (live_on there back way said) (leg_on one other way).items
+    pub later-on : (way : Way) → HasLater (live_said_on there back way said) (leg_on one other way).items
     later-on There = are.agrees.there_agrees.items
     later-on Back = are.agrees.back_agrees.items
 
     pub stands-on : IsPairSaid there back said → (way : Way) →
-        Stands (live_on there back way said) (counts_on (pair_counts one other said) way)
+        Stands (live_said_on there back way said) (counts_on (pair_counts one other said) way)
     stands-on well = way-stands one other are.pair there back said well are.agrees
 
 -- ---- what a pair lives in ticks together
@@ -156,7 +156,7 @@ pub walks-pair : (there back : Config) (said : List PairSaying) (now : PairWalki
     ((one other : Script) → ArePairOf there back said one other → walking_counts now ≡ pair_counts one other said) →
     ((way : Way) (m : ℕ) → m < (config_on there back way).lines →
     slice_index_or (windows_of_way now way) m []
-    ≡ windows_by (config_on there back way).ticks (course_at (live_on there back way said) m)) →
+    ≡ windows_by (config_on there back way).ticks (course_at (live_said_on there back way said) m)) →
     WalksAsPair there back said now
 walks-pair there back said now network well lives counts windows =
     let own = lives (script_on there There said) (script_on back Back said) (own-pair there back said network well) in
@@ -196,6 +196,6 @@ nothing-pair there back now network lives counts windows windows' =
     (λ one other are. counts one other (pair-over there back [] one other are))
     (by-way (λ way. (m : ℕ) → m < (config_on there back way).lines →
     slice_index_or (windows_of_way now way) m []
-    ≡ windows_by (config_on there back way).ticks (course_at (live_on there back way []) m))
+    ≡ windows_by (config_on there back way).ticks (course_at (live_said_on there back way []) m))
     (nothing-windows there now.there.core.lines network.there_network windows)
     (nothing-windows back now.back.core.lines network.back_network windows'))

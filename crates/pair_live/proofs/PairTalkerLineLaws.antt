@@ -26,7 +26,7 @@ use Rattle.command_parts.specs.Dialogue.{Dialogue, Heard, Reply, last_reply, rep
 use Rattle.command_parts.specs.Replies.{StopsReply}
 use Rattle.text_got.proofs.WaitingTextInBlockLaws.{Holds-waits}
 use Rattle.pair_walk.specs.declared.pair_script.script_pair.PairFault.{PairFault}
-use Rattle.pair_walk.specs.declared.pair_script.script_pair.PairFault.TheVariants as fault
+use Rattle.pair_walk.specs.declared.pair_script.script_pair.PairFault.TheVariants as pair_fault
 use Rattle.pair_walk.specs.pair_script.PairTextLines.{is_division}
 use Rattle.walk_live.specs.declared.asked.Asked.{Asked}
 use Rattle.pair_live.specs.declared.answered_pair.AnsweredPair.{AnsweredPair}
@@ -36,7 +36,7 @@ use Rattle.pair_live.specs.declared.live_pair_line.LivePairLine.TheVariants as s
 use Rattle.pair_live.specs.declared.live_pair_reader.LivePairReader.{LivePairReader}
 use Rattle.pair_live.specs.declared.pair_talker.PairTalker.{PairTalker}
 use Rattle.pair_live.specs.declared.read_pair_line.BothStates.{BothStates}
-use Rattle.pair_live.specs.PairDialogue.{pair_dialogue, pair_last, pair_reply, pair_reply_by}
+use Rattle.pair_live.specs.PairDialogue.{pair_dialogue, live_pair_last, live_pair_reply, live_pair_reply_by}
 use Rattle.pair_live.specs.PairLines.{BothLive, PairSaid, PairTold, PairWrong, back_config, both_after, both_now}
 use Rattle.pair_live.specs.PairLines.{nothing_said}
 use Rattle.pair_live.specs.PairLines.{happens, nothing, of_limits, of_live, of_script, opening_by, pair_divided}
@@ -190,37 +190,38 @@ refused_of heard fault own of other =
     refused_before heard (live_pair_why fault) (live_pair_fault_text fault) own (of.refused other)
 
 script_before : (heard : Heard) (n : ℕ) (wrong : ScriptFault) (own : Stop) →
-    StopsOf (pair_fault_at n (of_limits (fault.Script wrong))) own → IsSilent heard →
-    StopsBefore heard (note_of (pair_fault_at n (of_limits (fault.Script wrong)))) own
+    StopsOf (pair_fault_at n (of_limits (pair_fault.Script wrong))) own → IsSilent heard →
+    StopsBefore heard (note_of (pair_fault_at n (of_limits (pair_fault.Script wrong)))) own
 script_before heard n (script.Line number at) own of none =
-    refused_of heard (pair_fault_at n (of_limits (fault.Script (script.Line number at)))) own of (λ e. cc)
+    refused_of heard (pair_fault_at n (of_limits (pair_fault.Script (script.Line number at)))) own of (λ e. cc)
 script_before heard n (script.Slip line window slip) own of none =
-    refused_of heard (pair_fault_at n (of_limits (fault.Script (script.Slip line window slip)))) own of (λ e. cc)
+    refused_of heard (pair_fault_at n (of_limits (pair_fault.Script (script.Slip line window slip)))) own of (λ e. cc)
 script_before heard n (script.Spread slow fast slip ring) own of none =
-    refused_of heard (pair_fault_at n (of_limits (fault.Script (script.Spread slow fast slip ring)))) own of (λ e. cc)
+    refused_of heard (pair_fault_at n (of_limits (pair_fault.Script (script.Spread slow fast slip ring)))) own of
+    (λ e. cc)
 script_before heard n (script.Lag lag least slow slip) own of none =
-    refused_of heard (pair_fault_at n (of_limits (fault.Script (script.Lag lag least slow slip)))) own of (λ e. cc)
+    refused_of heard (pair_fault_at n (of_limits (pair_fault.Script (script.Lag lag least slow slip)))) own of (λ e. cc)
 script_before heard n script.Memory own of none =
     short_before heard (note_of no_pair_memory) own (of.short refl) none
 
 limits_before : (heard : Heard) (n : ℕ) (wrong : PairFault) (own : Stop) →
     StopsOf (pair_fault_at n (of_limits wrong)) own → IsSilent heard →
     StopsBefore heard (note_of (pair_fault_at n (of_limits wrong))) own
-limits_before heard n (fault.Script wrong) own of none = script_before heard n wrong own of none
-limits_before heard n (fault.Undivided number) own of none =
-    refused_of heard (pair_fault_at n (of_limits (fault.Undivided number))) own of (λ e. cc)
-limits_before heard n (fault.Limit way wrong) own of none =
-    refused_of heard (pair_fault_at n (of_limits (fault.Limit way wrong))) own of (λ e. cc)
-limits_before heard n (fault.Lost way) own of none =
-    refused_of heard (pair_fault_at n (of_limits (fault.Lost way))) own of (λ e. cc)
-limits_before heard n (fault.Events way) own of none =
-    refused_of heard (pair_fault_at n (of_limits (fault.Events way))) own of (λ e. cc)
-limits_before heard n (fault.Lag there back least) own of none =
-    refused_of heard (pair_fault_at n (of_limits (fault.Lag there back least))) own of (λ e. cc)
-limits_before heard n (fault.Ticks there back) own of none =
-    refused_of heard (pair_fault_at n (of_limits (fault.Ticks there back))) own of (λ e. cc)
-limits_before heard n (fault.Runs runs) own of none =
-    refused_of heard (pair_fault_at n (of_limits (fault.Runs runs))) own of (λ e. cc)
+limits_before heard n (pair_fault.Script wrong) own of none = script_before heard n wrong own of none
+limits_before heard n (pair_fault.Undivided number) own of none =
+    refused_of heard (pair_fault_at n (of_limits (pair_fault.Undivided number))) own of (λ e. cc)
+limits_before heard n (pair_fault.Limit way wrong) own of none =
+    refused_of heard (pair_fault_at n (of_limits (pair_fault.Limit way wrong))) own of (λ e. cc)
+limits_before heard n (pair_fault.Lost way) own of none =
+    refused_of heard (pair_fault_at n (of_limits (pair_fault.Lost way))) own of (λ e. cc)
+limits_before heard n (pair_fault.Events way) own of none =
+    refused_of heard (pair_fault_at n (of_limits (pair_fault.Events way))) own of (λ e. cc)
+limits_before heard n (pair_fault.Lag there back least) own of none =
+    refused_of heard (pair_fault_at n (of_limits (pair_fault.Lag there back least))) own of (λ e. cc)
+limits_before heard n (pair_fault.Ticks there back) own of none =
+    refused_of heard (pair_fault_at n (of_limits (pair_fault.Ticks there back))) own of (λ e. cc)
+limits_before heard n (pair_fault.Runs runs) own of none =
+    refused_of heard (pair_fault_at n (of_limits (pair_fault.Runs runs))) own of (λ e. cc)
 
 wrong_before : (heard : Heard) (n : ℕ) (wrong : PairWrong) (own : Stop) → StopsOf (pair_fault_at n wrong) own →
     ((limits : PairFault) → wrong ≡ of_limits limits → IsSilent heard) →
@@ -234,11 +235,11 @@ wrong_before heard n (of_live wrong) own of none =
 
 -- at the fault that was found
 told_before : (heard : Heard) (reply : Reply) (n : ℕ) (found : Option PairWrong) (text : List ℕ) (fault : LivePairFault)
-    (own : Stop) → reply ≡ pair_reply_by n found text → IsPairToldAt n found fault → StopsOf fault own →
+    (own : Stop) → reply ≡ live_pair_reply_by n found text → IsPairToldAt n found fault → StopsOf fault own →
     ((limits : PairFault) → found ≡ Some (of_limits limits) → IsSilent heard) → StopsBefore heard reply own
 told_before heard reply n found text fault own is told of none =
     let P : Reply → Type 0 = λ (r : Reply). StopsBefore heard r own in
-    subst P (sym (is ∙ ap (λ (f : Option PairWrong). pair_reply_by n f text) told.fails))
+    subst P (sym (is ∙ ap (λ (f : Option PairWrong). live_pair_reply_by n f text) told.fails))
     (wrong_before heard n told.wrong own (subst (λ (f : LivePairFault). StopsOf f own) told.is of)
     (λ limits e. none limits (told.fails ∙ ap Some e)))
 
@@ -417,11 +418,11 @@ live_read talker reader later walk heard line says is room made read own frame a
 
 -- ---- replies
 pub reply_is : (heard : Heard) (line : List ℕ) (asked : Asked) → heard.dialogue ≡ pair_dialogue asked →
-    reply_to heard line ≡ pair_reply asked heard.lines line
+    reply_to heard line ≡ live_pair_reply asked heard.lines line
 reply_is heard line asked is = ap (λ (d : Dialogue). d.reply heard.lines line) is
 
 pub last_is : (heard : Heard) (asked : Asked) → heard.dialogue ≡ pair_dialogue asked →
-    last_reply heard ≡ pair_last heard.lines
+    last_reply heard ≡ live_pair_last heard.lines
 last_is heard asked is = ap (λ (d : Dialogue). d.last heard.lines) is
 
 silent_now : (talker : PairTalker) (heard : Heard) → IsTalking talker heard → (pair_said_in heard.lines).live ≡ None →

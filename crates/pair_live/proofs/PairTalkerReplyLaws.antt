@@ -20,7 +20,7 @@ use Rattle.pair_live.specs.declared.answered_pair.AnsweredPair.{AnsweredPair}
 use Rattle.pair_live.specs.declared.live_pair_line.LivePairLine.{LivePairLine}
 use Rattle.pair_live.specs.declared.pair_talker.PairTalker.{PairTalker}
 use Rattle.pair_live.specs.PairAnswered.{ArePairOf, IsPairAnswered, PairAnswersMore}
-use Rattle.pair_live.specs.PairDialogue.{line_answered, lines_last, pair_reply_by}
+use Rattle.pair_live.specs.PairDialogue.{line_answered, lines_last, live_pair_reply_by}
 use Rattle.pair_live.specs.PairLines.{BothLive, PairSaid, PairTold, PairWrong, back_config, happens, nothing}
 use Rattle.pair_live.specs.PairLines.{pair_line_after}
 use Rattle.pair_live.specs.PairLines.{pair_opening_fault, pair_told, setting, there_config}
@@ -80,7 +80,8 @@ pub reply_text : (talker : PairTalker) (heard : Heard) (line : List ℕ) (says :
     HasReadLine talker heard line says → reply_to heard line ≡ Ok (text_of talker.tells heard line)
 reply_text talker heard line says has =
     reply_is heard line talker.tells has.dialogue
-    ∙ ap (λ (f : Option PairWrong). pair_reply_by (length heard.lines + 1) f (text_of talker.tells heard line)) has.fine
+    ∙ ap (λ (f : Option PairWrong). live_pair_reply_by (length heard.lines + 1) f (text_of talker.tells heard line))
+    has.fine
 
 more_text : (talker : PairTalker) (heard : Heard) (line : List ℕ) (says : LivePairLine) →
     HasReadLine talker heard line says →
@@ -311,5 +312,5 @@ pub totals_told : (talker : PairTalker) (heard : Heard) (there back : Totals) �
 totals_told talker heard there back is whole same =
     let own : List ℕ = lines_last heard.lines in
     last_is heard talker.tells is.dialogue
-    ∙ ap (λ (f : Option PairWrong). pair_reply_by (length heard.lines + 1) f own) whole
+    ∙ ap (λ (f : Option PairWrong). live_pair_reply_by (length heard.lines + 1) f own) whole
     ∙ sym (ap₂ (λ (t u : Totals). Ok (total_way_text There t ++ total_way_text Back u)) same.0 same.1)

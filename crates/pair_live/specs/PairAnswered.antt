@@ -23,8 +23,8 @@ pub record ArePairOf (there back : Config) (said : List PairSaying) (one other :
   pub agrees : PairAgrees there back said one other
 
 -- how a way stands
-abbrev pub live_on : Config → Config → Way → List PairSaying → Live
-live_on there back way said = live_of (config_on there back way) (said_on way said)
+abbrev pub live_said_on : Config → Config → Way → List PairSaying → Live
+live_said_on there back way said = live_of (config_on there back way) (said_on way said)
 
 -- ---- a pair stands for each of them, with their counts; and its lines have the failures that were said, of which one
 -- that isn't over lasts to the last tick
@@ -34,7 +34,7 @@ pub record WalksAsPair (there back : Config) (said : List PairSaying) (pair : Pa
       walking_counts pair ≡ pair_counts one other said
   pub windows : (way : Way) (m : ℕ) → m < (config_on there back way).lines →
       slice_index_or (windows_of_way pair way) m []
-      ≡ windows_by (config_on there back way).ticks (course_at (live_on there back way said) m)
+      ≡ windows_by (config_on there back way).ticks (course_at (live_said_on there back way said) m)
   pub lines : (way : Way) → length (walking_on pair way).core.lines ≡ (config_on there back way).lines
   pub total : (way : Way) → (walking_on pair way).core.source.total ≡ (config_on there back way).ticks
 
@@ -49,9 +49,9 @@ pub record IsPairAnswered (pair : AnsweredPair) (asked : Asked) (there back : Co
     pub well : IsPairSaid there back said
     pub walks : WalksAsPair there back said pair.pair
     pub lines : (way : Way) → (numbers_on pair way).lines ≡ (config_on there back way).lines
-    pub items : (way : Way) → (numbers_on pair way).items ≡ length (live_on there back way said).items
+    pub items : (way : Way) → (numbers_on pair way).items ≡ length (live_said_on there back way said).items
     pub waiting : (way : Way) (one other : Script) → ArePairOf there back said one other →
-        (numbers_on pair way).waiting ≡ waiting_at (leg_on one other way) (live_on there back way said).passed
+        (numbers_on pair way).waiting ≡ waiting_at (leg_on one other way) (live_said_on there back way said).passed
     pub tells : pair.tells ≡ asked
 
 -- what has landed of a way counts one item more

@@ -28,20 +28,20 @@ lines_last ls = last_pair_text (scripts_of_live ls).there (scripts_of_live ls).b
 
 -- ---- replies
 -- a text; or the note on the fault of line n
-abbrev pub pair_reply_by : ℕ → Option PairWrong → List ℕ → Reply
-pair_reply_by n None text = Ok text
-pair_reply_by n (Some wrong) text =
+abbrev pub live_pair_reply_by : ℕ → Option PairWrong → List ℕ → Reply
+live_pair_reply_by n None text = Ok text
+live_pair_reply_by n (Some wrong) text =
     Err (live_pair_why (pair_fault_at n wrong), live_pair_fault_text (pair_fault_at n wrong))
 
 -- to a line behind others
-abbrev pub pair_reply : Asked → List (List ℕ) → List ℕ → Reply
-pair_reply asked ls line =
-    pair_reply_by (length ls + 1) (pair_line_fault (pair_said_in ls) (words line)) (line_answered asked ls line)
+abbrev pub live_pair_reply : Asked → List (List ℕ) → List ℕ → Reply
+live_pair_reply asked ls line =
+    live_pair_reply_by (length ls + 1) (pair_line_fault (pair_said_in ls) (words line)) (line_answered asked ls line)
 
 -- to the end of the text: the totals of both ways
-abbrev pub pair_last : List (List ℕ) → Reply
-pair_last ls = pair_reply_by (length ls + 1) (pair_opening_fault (pair_said_in ls)) (lines_last ls)
+abbrev pub live_pair_last : List (List ℕ) → Reply
+live_pair_last ls = live_pair_reply_by (length ls + 1) (pair_opening_fault (pair_said_in ls)) (lines_last ls)
 
 -- by what is asked for
 abbrev pub pair_dialogue : Asked → Dialogue
-pair_dialogue asked = record { reply = pair_reply asked; last = pair_last }
+pair_dialogue asked = record { reply = live_pair_reply asked; last = live_pair_last }

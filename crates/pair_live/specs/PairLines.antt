@@ -21,14 +21,14 @@ use Rattle.text_live.specs.declared.live_keyword.LiveKeyword.{LiveKeyword}
 use Rattle.text_live.specs.declared.live_keyword.LiveKeyword.TheVariants as word
 use Rattle.text_live.specs.declared.live_keyword.FirstWord.{FirstWord}
 use Rattle.text_live.specs.declared.live_keyword.FirstWord.TheVariants as first
-use Rattle.text_live.specs.declared.live_fault.LiveLineFault.TheVariants as wrong
+use Rattle.text_live.specs.declared.live_fault.LiveLineFault.TheVariants as live_wrong
 use Rattle.text_live.specs.LiveLines.{first_of, rest_fault, value_fault, live_said}
 use Rattle.pair_walk.specs.declared.pair_script.script_pair.ScriptPair.{ScriptPair}
 use Rattle.pair_walk.specs.declared.pair_script.script_pair.PairFault.{PairFault}
 use Rattle.pair_walk.specs.pair_script.PairTextLines.{is_division}
 use Rattle.pair_walk.specs.pair_script.PairOfText.{limits_fault}
 use Rattle.pair_live.specs.declared.live_pair_fault.PairLineFault.{PairLineFault}
-use Rattle.pair_live.specs.declared.live_pair_fault.PairLineFault.TheVariants as fault
+use Rattle.pair_live.specs.declared.live_pair_fault.PairLineFault.TheVariants as line_wrong
 
 -- ---- what lines say
 -- how it stands with both ways
@@ -119,19 +119,19 @@ way_named w =
 
 -- of a line of one way: word 3, by the configuration of this way and what was said of it
 abbrev pub way_fault : PairSaid → LiveKeyword → List ℕ → Option Way → Option PairLineFault
-way_fault s k w None = Some fault.Way
+way_fault s k w None = Some line_wrong.Way
 way_fault s k w (Some way) =
-    option_map fault.Live (value_fault (config_in s way) (live_on (both_now s) way) k 3 w)
+    option_map line_wrong.Live (value_fault (config_in s way) (live_on (both_now s) way) k 3 w)
 
 -- of the words behind its first one
 abbrev pub way_line_fault : PairSaid → LiveKeyword → List (List ℕ) → Option PairLineFault
 way_line_fault s k ws =
-    option_or (where_true (not (length ws == 2)) (fault.Count k (length ws)))
+    option_or (where_true (not (length ws == 2)) (line_wrong.Count k (length ws)))
     (way_fault s k (word_at 1 ws) (way_named (word_at 0 ws)))
 
 -- of a line by which ticks pass in both: as many are left in each
 abbrev pub pass_fault : PairSaid → List (List ℕ) → Option PairLineFault
-pass_fault s ws = option_map fault.Live (rest_fault (there_config s) (both_now s).there word.Pass ws)
+pass_fault s ws = option_map line_wrong.Live (rest_fault (there_config s) (both_now s).there word.Pass ws)
 
 abbrev pub is_pass : LiveKeyword → Bool
 is_pass word.Frame = false
@@ -146,14 +146,14 @@ pair_rest_fault s k ws = if is_pass k then pass_fault s ws else way_line_fault s
 
 -- of a line that scripts have: none stands behind a live one
 abbrev pub pair_earlier_fault : Option BothLive → Draft → EarlierPart → List (List ℕ) → Option PairWrong
-pair_earlier_fault (Some both) d p ws = Some (of_live (fault.Live (wrong.Behind p)))
+pair_earlier_fault (Some both) d p ws = Some (of_live (line_wrong.Live (live_wrong.Behind p)))
 pair_earlier_fault None d p ws = option_map of_script (words_fault d ws)
 
 abbrev pub pair_fault_by : PairSaid → List (List ℕ) → FirstWord → Option PairWrong
 pair_fault_by s ws (first.Earlier p) = pair_earlier_fault s.live s.settings p ws
 pair_fault_by s ws (first.Live k) =
     option_or (pair_opening_fault s) (option_map of_live (pair_rest_fault s k (drop 1 ws)))
-pair_fault_by s ws first.Other = Some (of_live (fault.Live wrong.First))
+pair_fault_by s ws first.Other = Some (of_live (line_wrong.Live live_wrong.First))
 
 -- of the words of a line that doesn't divide, and of any; where it divides, the script before it has to be whole
 abbrev pub undividing_fault : PairSaid → List (List ℕ) → Option PairWrong

@@ -11,18 +11,18 @@ use Rattle.pair_walk.specs.pair_script.Faults.{pair_fault_text, pair_why}
 use Rattle.pair_live.specs.declared.live_pair_fault.LivePairFault.{LivePairFault}
 use Rattle.pair_live.specs.declared.live_pair_fault.LivePairFault.TheVariants.{Pair, Line}
 use Rattle.pair_live.specs.declared.live_pair_fault.PairLineFault.{PairLineFault}
-use Rattle.pair_live.specs.declared.live_pair_fault.PairLineFault.TheVariants as wrong
+use Rattle.pair_live.specs.declared.live_pair_fault.PairLineFault.TheVariants as line_wrong
 
 -- ---- of a line
 abbrev pub pair_line_kind : PairLineFault → LineKind
-pair_line_kind (wrong.Live fault) = live_kind fault
-pair_line_kind (wrong.Count keyword follow) = kind.Word
-pair_line_kind wrong.Way = kind.Word
+pair_line_kind (line_wrong.Live fault) = live_kind fault
+pair_line_kind (line_wrong.Count keyword follow) = kind.Word
+pair_line_kind line_wrong.Way = kind.Word
 
 abbrev pub pair_line_help : PairLineFault → List ℕ
-pair_line_help (wrong.Live fault) = live_help_text fault
-pair_line_help (wrong.Count keyword follow) = count_text (keyword_text keyword) 2 follow
-pair_line_help wrong.Way = codes "word 2 is there or back"
+pair_line_help (line_wrong.Live fault) = live_help_text fault
+pair_line_help (line_wrong.Count keyword follow) = count_text (keyword_text keyword) 2 follow
+pair_line_help line_wrong.Way = codes "word 2 is there or back"
 
 -- ---- of a text
 abbrev pub live_pair_fault_text : LivePairFault → List ℕ

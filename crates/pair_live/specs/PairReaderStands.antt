@@ -16,7 +16,7 @@ use Rattle.text_live.specs.LiveLines.{Told, nothing as one_nothing, setting as o
 use Rattle.text_live.specs.LiveReaderStands.{Keeps, IsKept, IsRoom}
 use Rattle.pair_walk.specs.declared.pair_script.script_pair.PairFault.TheVariants as pair_fault
 use Rattle.pair_live.specs.declared.live_pair_fault.LivePairFault.{LivePairFault}
-use Rattle.pair_live.specs.declared.live_pair_fault.LivePairFault.TheVariants as fault
+use Rattle.pair_live.specs.declared.live_pair_fault.LivePairFault.TheVariants as text_wrong
 use Rattle.pair_live.specs.declared.live_pair_line.LivePairLine.{LivePairLine}
 use Rattle.pair_live.specs.declared.live_pair_line.LivePairLine.TheVariants as line
 use Rattle.pair_live.specs.declared.read_pair_line.BothStates.{BothStates}
@@ -29,14 +29,14 @@ use Rattle.pair_live.specs.PairLines.{pair_line_after}
 -- ---- faults
 -- the fault of line n
 abbrev pub pair_fault_at : ℕ → PairWrong → LivePairFault
-pair_fault_at n (of_script wrong) = fault.Pair (pair_fault.Script (script_line n wrong))
-pair_fault_at n (of_limits wrong) = fault.Pair wrong
-pair_fault_at n undivided = fault.Pair (pair_fault.Undivided n)
-pair_fault_at n (of_live wrong) = fault.Line n wrong
+pair_fault_at n (of_script wrong) = text_wrong.Pair (pair_fault.Script (script_line n wrong))
+pair_fault_at n (of_limits wrong) = text_wrong.Pair wrong
+pair_fault_at n undivided = text_wrong.Pair (pair_fault.Undivided n)
+pair_fault_at n (of_live wrong) = text_wrong.Line n wrong
 
 -- memory was short
 abbrev pub no_pair_memory : LivePairFault
-no_pair_memory = fault.Pair (pair_fault.Script Memory)
+no_pair_memory = text_wrong.Pair (pair_fault.Script Memory)
 
 -- the line of a number has a fault, and is told
 pub record IsPairToldAt (n : ℕ) (found : Option PairWrong) (told : LivePairFault) : Type 0 where

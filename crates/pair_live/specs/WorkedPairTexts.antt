@@ -12,10 +12,10 @@ use Rattle.text_scripts.specs.declared.script_read.script_keyword.Keyword.TheVar
 use Rattle.law_pair.specs.declared.pair_events.Way.TheVariants.{There, Back}
 use Rattle.text_live.specs.declared.live_keyword.EarlierPart.TheVariants.{Configuration, Windows}
 use Rattle.text_live.specs.declared.live_keyword.LiveKeyword.TheVariants as word
-use Rattle.text_live.specs.declared.live_fault.LiveLineFault.TheVariants as wrong
+use Rattle.text_live.specs.declared.live_fault.LiveLineFault.TheVariants as live_wrong
 use Rattle.pair_walk.specs.declared.pair_script.script_pair.ScriptPair.{ScriptPair}
-use Rattle.pair_walk.specs.declared.pair_script.script_pair.PairFault.TheVariants as pair
-use Rattle.pair_live.specs.declared.live_pair_fault.PairLineFault.TheVariants as fault
+use Rattle.pair_walk.specs.declared.pair_script.script_pair.PairFault.TheVariants as pair_fault
+use Rattle.pair_live.specs.declared.live_pair_fault.PairLineFault.TheVariants as line_wrong
 use Rattle.pair_live.specs.PairLines.{PairSaid, PairWrong, of_script, of_limits, undivided, of_live}
 use Rattle.pair_live.specs.PairLines.{pair_lines, nothing_said}
 
@@ -50,12 +50,12 @@ word_texts =
 
 abbrev pub word_faults : List (Option (ℕ × PairWrong))
 word_faults =
-    Some (12, of_live (fault.Count word.Cut 1))
-    ∷ Some (12, of_live (fault.Live (wrong.Count word.Pass 2)))
-    ∷ Some (13, of_live fault.Way)
-    ∷ Some (12, of_live (fault.Live (wrong.Field (field.Hex 3))))
-    ∷ Some (12, of_live (fault.Live (wrong.Field (field.Range 3 0 0))))
-    ∷ Some (12, of_live (fault.Live wrong.First)) ∷ []
+    Some (12, of_live (line_wrong.Count word.Cut 1))
+    ∷ Some (12, of_live (line_wrong.Live (live_wrong.Count word.Pass 2)))
+    ∷ Some (13, of_live line_wrong.Way)
+    ∷ Some (12, of_live (line_wrong.Live (live_wrong.Field (field.Hex 3))))
+    ∷ Some (12, of_live (line_wrong.Live (live_wrong.Field (field.Range 3 0 0))))
+    ∷ Some (12, of_live (line_wrong.Live live_wrong.First)) ∷ []
 
 -- of what was said before
 abbrev pub order_texts : List (List (List ℕ))
@@ -66,11 +66,11 @@ order_texts =
 
 abbrev pub order_faults : List (Option (ℕ × PairWrong))
 order_faults =
-    Some (15, of_live (fault.Live (wrong.CutAlready 0)))
-    ∷ Some (13, of_live (fault.Live (wrong.NotCut 0)))
-    ∷ Some (13, of_live (fault.Live wrong.LastTick))
-    ∷ Some (13, of_live (fault.Live (wrong.Behind Windows)))
-    ∷ Some (13, of_live (fault.Live (wrong.Behind Configuration))) ∷ []
+    Some (15, of_live (line_wrong.Live (live_wrong.CutAlready 0)))
+    ∷ Some (13, of_live (line_wrong.Live (live_wrong.NotCut 0)))
+    ∷ Some (13, of_live (line_wrong.Live live_wrong.LastTick))
+    ∷ Some (13, of_live (line_wrong.Live (live_wrong.Behind Windows)))
+    ∷ Some (13, of_live (line_wrong.Live (live_wrong.Behind Configuration))) ∷ []
 
 -- of the configurations
 abbrev pub opening_texts : List (List (List ℕ))
@@ -85,10 +85,10 @@ opening_texts =
 
 abbrev pub opening_faults : List (Option (ℕ × PairWrong))
 opening_faults =
-    Some (6, of_live (fault.Live wrong.First)) ∷ Some (6, undivided) ∷ Some (2, of_script (Missing Delays))
-    ∷ Some (8, of_script (Missing Delays)) ∷ Some (13, of_limits (pair.Limit Back (script.Lag 1 3 17 0)))
-    ∷ Some (13, of_limits (pair.Lost There)) ∷ Some (12, of_limits (pair.Lag 1 2 1))
-    ∷ Some (12, of_limits (pair.Ticks 9 8)) ∷ []
+    Some (6, of_live (line_wrong.Live live_wrong.First)) ∷ Some (6, undivided) ∷ Some (2, of_script (Missing Delays))
+    ∷ Some (8, of_script (Missing Delays)) ∷ Some (13, of_limits (pair_fault.Limit Back (script.Lag 1 3 17 0)))
+    ∷ Some (13, of_limits (pair_fault.Lost There)) ∷ Some (12, of_limits (pair_fault.Lag 1 2 1))
+    ∷ Some (12, of_limits (pair_fault.Ticks 9 8)) ∷ []
 
 -- ---- a conversation: a line there is added, the line back is cut for a tick, and then a frame is sent there
 abbrev pub cut_back_lines : List (List ℕ)

@@ -11,7 +11,7 @@ use text_live::{LiveKeyword, LiveLineFault};
 pub enum PairLineFault {
     /// What a line of a live text of one way can have.
     Live(LiveLineFault),
-    /// Behind `keyword`, which takes a way and one word, there are `follow` of them.
+    /// Behind `keyword`, which takes a way and one word, there are `follow` words.
     Count { keyword: LiveKeyword, follow: u64 },
     /// The word behind the first names no way.
     Way,

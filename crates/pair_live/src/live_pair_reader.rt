@@ -1,6 +1,6 @@
 //! A live text of both ways, line by line.
 ghost use Rattle.std.specs.Prelude.{◌≡◌, ◌⊎◌, ℕ, ◌+◌, List, true, false, option_map, Some, None, Err};
-ghost use Rattle.std.specs.Prelude.{IfOk, IfErr, OnOk, IfSome};
+ghost use Rattle.std.specs.Prelude.{IfOk, IfErr, OnOk, OnErr, IfSome};
 ghost use Rattle.text_lines.specs.WordsOfLine.{words, is_skipped};
 ghost use Rattle.law_model.specs.declared.script_types.Script.{Script};
 ghost use Rattle.text_scripts.specs.script_read.ScriptInPieces.{IsReader, IsUntested, HasNumbersLeft};
@@ -129,6 +129,7 @@ impl LivePairReader {
         requires reader { IsLivePairReader self.old }
         ensures reader { IsLivePairReader self.new }
         ensures configs { result ≡ waiting_configs self.old }
+        ensures once { waiting_configs self.new ≡ None }
         ensures network { IfSome result ArePairConfigs }
         ensures at { (n : ℕ) (s : PairSaid) → IsPairAt self.old n s → IsPairAt self.new n s }
         ensures failure { pair_failure self.new ≡ pair_failure self.old }
@@ -144,6 +145,7 @@ impl LivePairReader {
         ensures fault { result ≡ LivePairFault.Line (pair_number self.old) fault }
         ensures reader { IsLivePairReader self.new }
         ensures failed { pair_failure self.new ≡ Some result }
+        ensures number { pair_number self.new ≡ pair_number self.old }
     {
         let stop = LivePairFault::Line {
             number: self.number,
@@ -172,6 +174,7 @@ impl LivePairReader {
         ensures stops { (n : ℕ) (s : PairSaid) (ws : List (List ℕ)) → IsPairAt self.old n s →
             pair_divides s ws ≡ true → IfErr result (λ fault. StopsPair n s ws fault) }
         ensures failed { IfErr result (λ fault. pair_failure self.new ≡ Some fault) }
+        ensures number { OnErr result (pair_number self.new ≡ pair_number self.old) }
     {
         let Some(reader) = self.settings.take() else {
             return Err(self.stop(PairLineFault::Live(LiveLineFault::First)));
@@ -205,6 +208,7 @@ impl LivePairReader {
             pair_divides s (words line.now) ≡ false →
             IfErr result (λ fault. StopsPair n s (words line.now) fault) }
         ensures failed { IfErr result (λ fault. pair_failure self.new ≡ Some fault) }
+        ensures number { OnErr result (pair_number self.new ≡ pair_number self.old) }
     {
         let Some(reader) = self.settings.take() else {
             self.number += 1;
@@ -241,6 +245,7 @@ impl LivePairReader {
             pair_divides s (words line.now) ≡ false →
             IfErr result (λ fault. StopsPair n s (words line.now) fault) }
         ensures failed { IfErr result (λ fault. pair_failure self.new ≡ Some fault) }
+        ensures number { OnErr result (pair_number self.new ≡ pair_number self.old) }
     {
         let Some(reader) = self.settings.take() else {
             return Err(self.stop(PairLineFault::Live(LiveLineFault::Behind(part))));
@@ -309,6 +314,7 @@ impl LivePairReader {
             pair_divides s ws ≡ false → IsLiveLine ws keyword (words rest.now) →
             IfErr result (λ fault. IsPairToldAt n (pair_line_fault s ws) fault) }
         ensures failed { IfErr result (λ fault. pair_failure self.new ≡ Some fault) }
+        ensures number { OnErr result (pair_number self.new ≡ pair_number self.old) }
     {
         match self.open() {
             Ok(()) => {}
@@ -323,7 +329,7 @@ impl LivePairReader {
         }
     }
 
-    /// Reads one line, without its end. After a fault it reads no more, and tells that fault again.
+    /// Reads one line, without its end. After a fault it reads no more, but tells that fault again.
     pub fn line(&mut self, line: &[u8]) -> Result<LivePairLine, LivePairFault>
         requires reader { IsLivePairReader self.old }
         requires room { HasPairLinesLeft self.old }
@@ -335,6 +341,7 @@ impl LivePairReader {
         ensures fails_on { (fault : LivePairFault) → pair_failure self.old ≡ Some fault →
             result ≡ Err fault }
         ensures failed { IfErr result (λ fault. pair_failure self.new ≡ Some fault) }
+        ensures number { OnErr result (pair_number self.new ≡ pair_number self.old) }
     {
         if let Some(fault) = self.fault {
             return Err(fault);

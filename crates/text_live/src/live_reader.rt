@@ -1,6 +1,6 @@
 //! A live text, line by line.
 ghost use Rattle.std.specs.Prelude.{◌≡◌, ◌⊎◌, ℕ, ◌+◌, List, true, option_map, Some, None, Err};
-ghost use Rattle.std.specs.Prelude.{IfOk, IfErr, OnOk, IfSome};
+ghost use Rattle.std.specs.Prelude.{IfOk, IfErr, OnOk, OnErr, IfSome};
 ghost use Rattle.text_lines.specs.WordsOfLine.{words, is_skipped};
 ghost use Rattle.law_model.specs.Common.{IsNetwork};
 ghost use Rattle.text_scripts.specs.script_read.ScriptInPieces.{IsReader, HasNumbersLeft, next_number, drafted};
@@ -108,6 +108,7 @@ impl LiveReader {
         requires reader { IsLiveReader self.old }
         ensures reader { IsLiveReader self.new }
         ensures config { result ≡ waiting_config self.old }
+        ensures once { waiting_config self.new ≡ None }
         ensures network { IfSome result IsNetwork }
         ensures at { (n : ℕ) (s : Said) → IsAt self.old n s → IsAt self.new n s }
         ensures failure { failure self.new ≡ failure self.old }
@@ -123,6 +124,7 @@ impl LiveReader {
         ensures fault { result ≡ LiveFault.Line (line_at self.old) fault }
         ensures reader { IsLiveReader self.new }
         ensures failed { failure self.new ≡ Some result }
+        ensures number { line_at self.new ≡ line_at self.old }
     {
         let stop = LiveFault::Line {
             number: self.number,
@@ -144,6 +146,7 @@ impl LiveReader {
         ensures stops { (n : ℕ) (s : Said) → IsAt self.old n s →
             IfErr result (λ fault. Stops n s (words line.now) fault) }
         ensures failed { IfErr result (λ fault. failure self.new ≡ Some fault) }
+        ensures number { OnErr result (line_at self.new ≡ line_at self.old) }
     {
         let Some(reader) = self.settings.take() else {
             self.number += 1;
@@ -174,6 +177,7 @@ impl LiveReader {
         ensures stops { (n : ℕ) (s : Said) → IsAt self.old n s →
             IfErr result (λ fault. Stops n s (words line.now) fault) }
         ensures failed { IfErr result (λ fault. failure self.new ≡ Some fault) }
+        ensures number { OnErr result (line_at self.new ≡ line_at self.old) }
     {
         let Some(reader) = self.settings.take() else {
             return Err(self.stop(LiveLineFault::Behind(part)));
@@ -238,6 +242,7 @@ impl LiveReader {
             IsLiveLine ws keyword (words rest.now) →
             IfErr result (λ fault. IsToldAt n (line_fault s ws) fault) }
         ensures failed { IfErr result (λ fault. failure self.new ≡ Some fault) }
+        ensures number { OnErr result (line_at self.new ≡ line_at self.old) }
     {
         match self.open() {
             Ok(()) => {}
@@ -255,7 +260,7 @@ impl LiveReader {
         }
     }
 
-    /// Reads one line, without its end. After a fault it reads no more, and tells that fault again.
+    /// Reads one line, without its end. After a fault it reads no more, but tells that fault again.
     pub fn line(&mut self, line: &[u8]) -> Result<LiveLine, LiveFault>
         requires reader { IsLiveReader self.old }
         requires room { HasLinesLeft self.old }
@@ -267,6 +272,7 @@ impl LiveReader {
         ensures fails_on { (fault : LiveFault) → failure self.old ≡ Some fault →
             result ≡ Err fault }
         ensures failed { IfErr result (λ fault. failure self.new ≡ Some fault) }
+        ensures number { OnErr result (line_at self.new ≡ line_at self.old) }
     {
         if let Some(fault) = self.fault {
             return Err(fault);

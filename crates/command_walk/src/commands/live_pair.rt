@@ -40,8 +40,8 @@ pub fn words(words: &[String]) -> Option<WalkCommand>
     }
 }
 
-/// Answers a live text of both ways, with what is asked for of their decision steps. What is answered to the lines
-/// that have come is put on `out` before more is read, of both ways in one order. No walk is handed back.
+/// Answers a live text of both ways, with what is asked for of their decision steps and passes. What is answered to
+/// the lines that have come is put on `out` before more is read, of both ways in one order. No walk is handed back.
 pub fn live_pair<S: ByteSource, K: ByteSink>(
     alloc: Global,
     tells: Asked,

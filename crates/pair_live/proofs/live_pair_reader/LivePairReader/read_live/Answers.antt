@@ -1,7 +1,7 @@
 -- The live lines begin, and the line is read.
 use Rattle.std.proofs.Common.{◌∙◌, ◌+◌, ℕ, ap, sym, subst}
 use Rattle.text_lines.specs.WordsOfLine.{words}
-use Rattle.pair_live.specs.declared.live_pair_fault.LivePairFault.TheVariants as stop
+use Rattle.pair_live.specs.declared.live_pair_fault.LivePairFault.TheVariants as text_wrong
 use Rattle.pair_live.specs.PairLines.{pair_line_fault}
 use Rattle.pair_live.specs.PairReaderStands.{IsPairToldAt}
 use Rattle.pair_live.proofs.PairReaderStateLaws.{opening_stops, rest_stops, reads_live, begun_says, kept_by}
@@ -27,7 +27,7 @@ returns-in-Err-read-clause-stops c n s ws at stays is =
     let says = begun_says c.open.new.self.first c.open.new.self.settings c.open.new.self.states _
     c.in-Ok.ensures.begun mid.says in
     subst (IsPairToldAt n (pair_line_fault s ws))
-    (sym (c.stop.ensures.fault ∙ ap (λ (k : ℕ). stop.Line k c.in-Err-read.fault) mid.number))
+    (sym (c.stop.ensures.fault ∙ ap (λ (k : ℕ). text_wrong.Line k c.in-Err-read.fault) mid.number))
     (rest_stops n s ws (words c.args.rest.now) c.args.keyword c.in-Err-read.fault stays is
     (c.in-Ok.ensures.whole n s at)
     (c.in-Err-read.ensures.err s (kept_by c.open.new.self.states s says)))
