@@ -68,7 +68,7 @@ pub fn walk_top<S: ByteSource, K: ByteSink, E: ByteSink>(
 
     // That of a conversation of both ways: what is written are the answers to the lines of its text, and then the
     // totals of each way; and afterwards there are two scripts that make a pair, of which `pair` writes, of each
-    // way, the frames that were told first, and the same refused items; and the headline holds of what was told
+    // way, first the frames that were told, and the same refused items; and the headline holds of what was told
     // of each way.
     ensures live_pair { (asked : Asked) → command_in words.now ≡ Some (LivePair asked) → result.status ≡ 0 →
         IfSome (S.left script.old) (λ text. (written : List ℕ)
