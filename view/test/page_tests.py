@@ -500,6 +500,7 @@ class Tests:
         b.key("Enter")
         self.same("a pair: the way back", shown(), ("pair: back", "Back", place, "", 0))
         self.same("a pair: the fragment has the way", b.js("location.hash"), "#way=back&at=100-200")
+        b.settle(500)
         self.same("a pair: what is said", b.js("document.getElementById('said').textContent")[:17], "Back. Ticks 100 t")
         b.key("0")
         self.same("a pair: its failure", shown()[2:], ("Ticks 0\u2013312", "", 1))
