@@ -33,6 +33,12 @@ def refuse(why):
     sys.exit(2)
 
 
+def number(word):
+    if not (word.isascii() and word.isdigit()):
+        raise ValueError(word)
+    return int(word)
+
+
 def lines_of(text):
     """The number and the words of each line that has some and is no comment."""
     for number, line in enumerate(text.split("\n"), 1):
@@ -93,15 +99,15 @@ class Said:
             if word != "pass" and self.passed >= ticks:
                 raise ValueError(self.passed)
         if word == "pass":
-            self.passed += int(value)
-            if int(value) < 1 or self.passed > ticks:
+            self.passed += number(value)
+            if number(value) < 1 or self.passed > ticks:
                 raise ValueError(self.passed)
         elif word == "cut":
-            self.cut(int(value))
+            self.cut(number(value))
         elif word == "mend":
-            self.mend(int(value))
+            self.mend(number(value))
         elif word in ("frame", "add", "remove"):
-            if not (bytes.fromhex(value) if word == "frame" else 0 <= int(value) <= 255):
+            if not (0 < len(bytes.fromhex(value)) <= 65_535 if word == "frame" else number(value) <= 255):
                 raise ValueError(value)
             self.items.append(f"{word} {self.passed} {value}")
             self.count["client" if word == "frame" else "operator"] += 1
@@ -114,7 +120,7 @@ class Said:
                 self.slips |= slip > 0
 
     def cut(self, line):
-        if line in self.cut_at or not 0 <= line < self.numbers["lines"][0] or self.passed < self.ends.get(line, 0):
+        if line in self.cut_at or line >= self.numbers["lines"][0] or self.passed < self.ends.get(line, 0):
             raise ValueError(line)
         self.cut_at[line] = self.passed
 
