@@ -92,7 +92,7 @@ Life.tables = (() => {
     return (waits.length ? count(waits.length, "frame waits", "frames wait") + ": from item " + number(waits[0].item) +
       " on they weren't wholly carried when the session ended. " : "") +
       (s.events ? "The script has " + count(s.events, "event line") +
-        ": items land when their event comes, which may be after the tick that they are due, and those that haven't landed aren't told of. " : "");
+        ": items land when their event comes, which may be after the tick that they are due, and frames that haven't landed aren't told of. " : "");
   }
 
   function showTable(m) {

@@ -25,7 +25,7 @@ use Rattle.hex.proofs.HexLemmas.{length-encode_with, decode_of-encode_lower}
 use Rattle.text_lines.specs.Cut.{Lacks}
 use Rattle.text_lines.proofs.TextLineAndWordLaws.{lines_cut, words_only}
 use Rattle.command_walk.specs.commands.H4.{multiframe_text, h4_text, h4_octets}
-use Rattle.std.proofs.lemmas.List.{get_or_past, take_more}
+use Rattle.std.proofs.lemmas.List.{get_or-drop, get_or-take, get_or_past, take_more}
 use Rattle.law_model.specs.Common.{leg_of, IsValid, Told, Table, telling, untold, sent_packet, forward_packet}
 use Rattle.law_model.specs.Common.{packet_nibbles, number_behind, scenario_of, steps_in, after, table_of, nibble_in}
 use Rattle.law_model.specs.Common.{nibble_at, IsPacket, read_of, upper_halves, LineLock, unlocked, locked, lock_by}
@@ -131,23 +131,13 @@ one-line n octets part rest some small =
     one_part n octets (octets ++ part) part _ line (lines rest) first (digits-said part some small) refl
 
 -- ---- all lines
-small-none : IsBytes []
-small-none zero = lit< tt
-small-none (suc i) = lit< tt
-
-small-cons : (x : ℕ) (xs : List ℕ) → x < 256 → IsBytes xs → IsBytes (x ∷ xs)
-small-cons x xs first later zero = first
-small-cons x xs first later (suc i) = later i
-
-small-take : (n : ℕ) (xs : List ℕ) → IsBytes xs → IsBytes (take n xs)
-small-take zero xs small = small-none
-small-take (suc n) [] small = small-none
-small-take (suc n) (x ∷ xs) small = small-cons x (take n xs) (small 0) (small-take n xs (λ k. small (suc k)))
-
-small-drop : (n : ℕ) (xs : List ℕ) → IsBytes xs → IsBytes (drop n xs)
-small-drop zero xs small = small
-small-drop (suc n) [] small = small-none
-small-drop (suc n) (x ∷ xs) small = small-drop n xs (λ k. small (suc k))
+small-part : (n m : ℕ) (xs : List ℕ) → IsBytes xs → IsBytes (take n (drop m xs))
+small-part n m xs small i =
+    elim (cases_lt i n) [
+      | inl inside ↦ rw (get_or-take n (drop m xs) i 0 inside) (rw get_or-drop (small (m + i)))
+      | inr beyond ↦ rw (get_or_past (take n (drop m xs)) i 0
+          (let size = length-take n (drop m xs) in omega (arith, size, beyond))) (lit< tt)
+    ]
 
 module _ (octets : List ℕ) (small : IsBytes octets) where
   lines-on : (count m n : ℕ) → m + count ≡ (length octets + 15) / 16 →
@@ -166,7 +156,7 @@ module _ (octets : List ℕ) (small : IsBytes octets) where
       let more : take (16 * m) octets ++ part ≡ take (16 * (m + 1)) octets = sym (take-add (16 * m) 16 octets)
       ∙ ap (λ i. take i octets) (let e : 16 * m + 16 ≡ 16 * (m + 1) = omega arith in e) in
       one-line n (take (16 * m) octets) part later some
-      (small-take 16 (drop (16 * m) octets) (small-drop (16 * m) octets small))
+      (small-part 16 (16 * m) octets small)
       ∙ ap (λ o. said_from hex_lines (n + 1) o (lines later)) more
       ∙ lines-on count (m + 1) (n + 1) (omega (arith, all))
       ∙ ap (λ i. said_from hex_lines i octets []) (let e : n + 1 + count ≡ n + suc count = omega arith in e)

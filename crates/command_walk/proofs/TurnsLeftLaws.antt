@@ -16,8 +16,8 @@ use Rattle.law_walk.specs.Walk.{walk_plan}
 use Rattle.law_walk.proofs.WalkPlanAndPoppedCellLaws.{begins-walked}
 use Rattle.law_headline.specs.WalkTexts.{counts_in}
 use Rattle.walk_engine.proofs.WalkRoundAndTotalsLaws.{round-turn, drained-end}
-use Rattle.command_walk.specs.declared.turns.trace_turns.Turn.{Turn}
-use Rattle.command_walk.specs.declared.turns.trace_turns.Turn.TheVariants.{Round}
+use Rattle.command_walk.specs.declared.turns.watched_turns.Turn.{Turn}
+use Rattle.command_walk.specs.declared.turns.watched_turns.Turn.TheVariants.{Round}
 use Rattle.command_walk.specs.declared.turns.next_turns.Pending.{Pending}
 use Rattle.command_walk.specs.declared.turns.next_turns.Pending.TheVariants.{Tries, Rounds}
 use Rattle.command_walk.specs.declared.turns.next_turns.TurnsLeft.{TurnsLeft}

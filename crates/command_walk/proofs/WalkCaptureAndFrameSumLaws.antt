@@ -1,12 +1,12 @@
 -- Frames of the rows that a walk takes: captured and read back, counted and summed.
-use Rattle.std.proofs.Common.{◌≡◌, ℕ, zero, suc, ◌+◌, ◌-◌, ◌<◌, ◌≤◌, List, [], ◌∷◌, ◌++◌, map, map-id, Option, refl, sym}
+use Rattle.std.proofs.Common.{◌≡◌, ℕ, zero, suc, ◌+◌, ◌-◌, ◌<◌, ◌≤◌, List, [], ◌∷◌, ◌++◌, map, Option, refl, sym}
 use Rattle.std.proofs.Common.{◌∙◌, ap, subst, arith, append-nil, Bool, true, false, length, take, drop, All, Some}
 use Rattle.std.proofs.Common.{None, Ok, inl, inr, length-drop, nat_lt, ltb-false, ◌*◌, min, sum, length-append}
 use Rattle.std.proofs.Common.{length-take-le}
 use Rattle.std.specs.List.{flat_map, range_with_len}
 use Rattle.std.proofs.lemmas.List.{map-append}
 use Rattle.std.proofs.lemmas.List.Concat.{flat_map-append}
-use Rattle.std.proofs.lemmas.List.FromFn.{map-range_with_len_more}
+use Rattle.law_model.proofs.ListLaws.{range-more}
 use Rattle.pair_walk.proofs.PairReportRowsLaws.{since}
 use Rattle.walk_engine.proofs.OpenedWayLaws.{none-delivered}
 use Rattle.law_model.specs.Common.{Start, leg_of, Counts, begin, longest_frame, type_fault, head, Outcome, outcome_by}
@@ -48,10 +48,7 @@ pub taken-more : (script : Script) (row : ℕ) →
     taken_frames script (row + 1) ≡ taken_frames script row ++ frames_of_row script row
 unfolding taken_frames
 taken-more script row =
-    let same : range_with_len 0 (row + 1) ≡ range_with_len 0 row ++ row ∷ [] =
-    sym (map-id (range_with_len 0 (row + 1))) ∙ map-range_with_len_more (λ (i : ℕ). i) 0 row row (omega arith)
-    ∙ ap (λ l. l ++ row ∷ []) (map-id (range_with_len 0 row)) in
-    ap (flat_map (frames_of_row script)) same
+    ap (flat_map (frames_of_row script)) (range-more row)
     ∙ flat_map-append (frames_of_row script) (range_with_len 0 row) (row ∷ [])
     ∙ ap (λ l. flat_map (frames_of_row script) (range_with_len 0 row) ++ l) (append-nil (frames_of_row script row))
 

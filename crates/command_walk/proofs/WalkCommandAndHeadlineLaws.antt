@@ -3,7 +3,7 @@ use Rattle.std.proofs.Common.{◌≡◌, ◌≤◌, ℕ, Bool, List, length, Opt
 use Rattle.std.proofs.Common.{◌∙◌, ap, subst, inl, inr, arith, OnOk, ◌<◌, true, false, ◌&&◌, nat_le, [], ◌∷◌}
 use Rattle.std.proofs.Common.{if◌then◌else◌, map, ◌++◌, append_assoc, decimal, ◌-◌, ◌+◌, reverse, slice_index_or}
 use Rattle.std.proofs.Common.{flat_map}
-use Rattle.law_model.specs.Common.{AppendsPart, Counts, IsWithin, Leg, leg_of, scenario_by}
+use Rattle.law_model.specs.Common.{Counts, IsWithin, Leg, leg_of, scenario_by}
 use Rattle.law_model.specs.declared.script_types.Script.{Script}
 use Rattle.text_scripts.specs.declared.script_read.script_fault.ScriptFault.{ScriptFault}
 use Rattle.text_scripts.specs.script_read.Script.{script_of}
@@ -16,11 +16,11 @@ use Rattle.command_parts.specs.Common.{script_answer, none, IsCommand, Kept, IsT
 use Rattle.command_parts.specs.Common.{note_of, HasRunAt, Task, lent, makes, status_at}
 use Rattle.command_parts.proofs.TaskEndAndStatusLaws.{as-talk, is-done, known-text, ends-given, ends-talk, when-run}
 use Rattle.command_parts.proofs.TalkOverSourceAndEndLaws.{all-said, refused-within}
-use Rattle.pair_walk.specs.declared.pair_script.script_pair.PairFault.{PairFault}
-use Rattle.pair_walk.specs.declared.pair_script.script_pair.ScriptPair.{ScriptPair}
-use Rattle.pair_walk.specs.pair_script.PairOfText.{pair_of}
-use Rattle.pair_walk.specs.pair_script.Inputs.{pair_answer_of}
-use Rattle.pair_walk.specs.ReportsOfWays.{way_text, pair_text, pair_reply}
+use Rattle.text_pairs.specs.declared.script_pair.PairFault.{PairFault}
+use Rattle.text_pairs.specs.declared.script_pair.ScriptPair.{ScriptPair}
+use Rattle.text_pairs.specs.PairOfText.{pair_of}
+use Rattle.text_pairs.specs.Inputs.{pair_answer_of}
+use Rattle.text_pairs.specs.ReportsOfWays.{way_text, pair_text, pair_reply}
 use Rattle.pair_walk.proofs.PairReportRowsLaws.{pair_headline}
 use Rattle.walk_live.specs.Headline.{IsLiveHeadline}
 use Rattle.walk_live.proofs.ConversationAnswerLaws.{live_headline}
@@ -33,7 +33,7 @@ use Rattle.walk_live.specs.declared.asked.Asked.TheVariants.{Nothing, Steps, Mem
 use Rattle.command_walk.specs.commands.Pair.{TellsPair, pair_words}
 use Rattle.command_walk.specs.commands.OneWay.{is_way, one_way_words}
 use Rattle.command_walk.specs.declared.command_of_words.WalkCommand.{WalkCommand}
-use Rattle.command_walk.specs.HandedWalk.{HandsScript, StopsBoth}
+use Rattle.command_walk.specs.HandedWalk.{HandsScript}
 use Rattle.std.specs.Prelude.{String, string_bytes, IsNone, nat_lt, drop, ◌==◌, bytes_eq, codes}
 use Rattle.std.specs.Option.{option_or}
 use Rattle.std.specs.declared.alloc.Global.{Global}
@@ -44,8 +44,7 @@ use Rattle.command_parts.specs.declared.stop_and_status.Stop.TheVariants.{Memory
 use Rattle.command_parts.proofs.SourceTextAndStopLaws.{ends-no-memory}
 use Rattle.command_walk.specs.declared.command_of_words.WalkCommand.TheVariants.{Walk, Trace, Fates, Capture, Gfp}
 use Rattle.command_walk.specs.declared.command_of_words.WalkCommand.TheVariants.{Frames, Decode, Noise, Au4, Channels}
-use Rattle.command_walk.specs.declared.command_of_words.WalkCommand.TheVariants.{Pair, Make, Check, Service, H4, Live}
-use Rattle.command_walk.specs.declared.command_of_words.WalkCommand.TheVariants.{LivePair, OneWay, Stream}
+use Rattle.command_walk.specs.declared.command_of_words.WalkCommand.TheVariants.{Pair, Check, Live, LivePair, OneWay}
 use Rattle.law_pair.specs.declared.pair_events.Way.TheVariants.{There, Back}
 use Rattle.command_walk.specs.commands.Walk.{word_at, is_word, walk_words}
 use Rattle.command_walk.specs.commands.Trace.{trace_words, trace_text}
@@ -111,15 +110,6 @@ hands-script source script walk has mine counts =
 pub both-ok : {T X : Type 0} (A B : Type 0) (end_ : Result T X) → OnOk end_ A → OnOk end_ B → OnOk end_ (A × B)
 both-ok A B (Ok t) a b = (a, b)
 both-ok A B (Err x) a b = tt
-
--- ---- notes that go nowhere don't fail
-pub stops-out : {K E : Type 0} (k_written : K → Option (List ℕ)) (k_faults : K → ℕ) (k_old k_new : K) (text : List ℕ)
-    (e_written : E → Option (List ℕ)) (e_old e_new : E) (trace : List ℕ)
-    → StopsBoth k_written k_faults k_old k_new text e_written (λ e. 0) e_old e_new trace →
-    AppendsPart k_written k_faults k_old k_new text
-stops-out k_written k_faults k_old k_new text e_written e_old e_new trace (inl both) = both.0
-stops-out k_written k_faults k_old k_new text e_written e_old e_new trace (inr both) =
-    absurd (let e = both.1.counted in omega (arith, e))
 
 -- ---- the headline
 module _ {S K E : Type 0} (source : Lent S) (out : Lent K) (notes : Lent E) (answer : Script → Answer) (status : ℕ)
@@ -374,24 +364,7 @@ none-task (Some command) is = absurd cc
 is-command : (o : Option WalkCommand) → (IsNone o → ⊥) → IsCommand (task_for o)
 is-command None some = some refl
 is-command (Some Walk) some = tt
-is-command (Some Trace) some = tt
-is-command (Some Fates) some = tt
-is-command (Some Check) some = tt
-is-command (Some (H4 line)) some = tt
-is-command (Some (Service interval)) some = tt
-is-command (Some Capture) some = tt
-is-command (Some Gfp) some = tt
-is-command (Some Frames) some = tt
-is-command (Some Decode) some = tt
-is-command (Some Noise) some = tt
-is-command (Some Au4) some = tt
-is-command (Some Channels) some = tt
-is-command (Some Pair) some = tt
-is-command (Some (OneWay way)) some = tt
-is-command (Some (Live asked)) some = tt
-is-command (Some (LivePair asked)) some = tt
-is-command (Some (Make number lines ticks)) some = tt
-is-command (Some (Stream load)) some = tt
+is-command (Some other) some = tt
 
 pub not-run : (status : ℕ) → HasRunAt status → status ≡ 7 → ⊥
 not-run status (inl at) is = omega (arith, at, is)
@@ -427,23 +400,7 @@ module _ {S K E : Type 0} (source : Lent S) (out : Lent K) (notes : Lent E) (sta
   headline-of Trace runs ends at =
       tells-headline source out notes (λ script. writes_both (walk_text script) (trace_text script)) status
       (λ script all. all.0) ends at
-  headline-of Fates runs ends at = absurd runs
-  headline-of Check runs ends at = absurd runs
-  headline-of (H4 line) runs ends at = absurd runs
-  headline-of (Service interval) runs ends at = absurd runs
-  headline-of Capture runs ends at = absurd runs
-  headline-of Gfp runs ends at = absurd runs
-  headline-of Frames runs ends at = absurd runs
-  headline-of Decode runs ends at = absurd runs
-  headline-of Noise runs ends at = absurd runs
-  headline-of Au4 runs ends at = absurd runs
-  headline-of Channels runs ends at = absurd runs
-  headline-of Pair runs ends at = absurd runs
-  headline-of (OneWay way) runs ends at = absurd runs
-  headline-of (Live asked) runs ends at = absurd runs
-  headline-of (LivePair asked) runs ends at = absurd runs
-  headline-of (Make number lines ticks) runs ends at = absurd runs
-  headline-of (Stream rate) runs ends at = absurd runs
+  headline-of other runs ends at = absurd runs
 
 -- ---- How the program ends with what a command gives, by its task.
 -- a conversation that stopped has run nothing that is handed back

@@ -11,7 +11,7 @@ use Rattle.law_model.specs.session.Counts.{Plan, Counts, run, run_lines, drain, 
 use Rattle.law_progress.specs.Progress.{made}
 use Rattle.law_walk.specs.Walk.{walk_plan, IsWalked}
 use Rattle.law_headline.specs.WalkTexts.{counts_in}
-use Rattle.command_walk.specs.declared.turns.trace_turns.Turn.{Turn}
+use Rattle.command_walk.specs.declared.turns.watched_turns.Turn.{Turn}
 use Rattle.command_walk.specs.declared.turns.next_turns.Pending.{Pending}
 use Rattle.command_walk.specs.declared.turns.next_turns.Pending.TheVariants.{Tries, Rounds}
 use Rattle.command_walk.specs.declared.turns.next_turns.TurnsLeft.{TurnsLeft}

@@ -1,5 +1,5 @@
 -- The program's commands: by which words, with which tasks, and which walk is handed back.
-use Rattle.std.specs.Prelude.{◌≡◌, ◌≤◌, ℕ, List, Option, Some, None, String, map, string_bytes, codes}
+use Rattle.std.specs.Prelude.{◌≡◌, ◌≤◌, ℕ, ◌++◌, List, Option, Some, None, String, map, string_bytes, codes}
 use Rattle.std.specs.Option.{option_or}
 use Rattle.std.specs.declared.alloc.Global.{Global}
 use Rattle.law_model.specs.session.ValidScript.{IsWithin}
@@ -28,7 +28,7 @@ use Rattle.command_walk.specs.commands.Au4.{au4_words, au4_answer}
 use Rattle.command_walk.specs.commands.Channels.{channels_words, channels_answer}
 use Rattle.command_walk.specs.commands.Pair.{pair_words}
 use Rattle.command_walk.specs.commands.OneWay.{one_way_answer, one_way_words}
-use Rattle.pair_walk.specs.ReportsOfWays.{pair_reply}
+use Rattle.text_pairs.specs.ReportsOfWays.{pair_reply}
 use Rattle.command_walk.specs.commands.Live.{live_words, live_talk}
 use Rattle.command_walk.specs.commands.LivePair.{live_pair_words, live_pair_talk}
 use Rattle.command_walk.specs.commands.Make.{make_words, make_answer}
@@ -37,9 +37,12 @@ use Rattle.command_walk.specs.HandedWalk.{IsWalkOf, HandsScript}
 use Rattle.law_model.specs.Common.{most_drawn_ticks, most_ticks}
 
 abbrev pub usage : List ℕ
-usage = codes "usage: vcat_walk walk, trace, fates, check, h4 LINE, service INTERVAL, capture, gfp, frames, decode, noise, au4, channels, pair, pair there, pair back, live, live trace, live told, live pair, live pair trace, live pair told, make NUMBER LINES TICKS, or stream OCTETS MBITS FIRST END NUMBER\n"
+usage =
+    codes "usage: vcat_walk walk, trace, fates, check, h4 LINE, service INTERVAL, capture, gfp, frames, decode, noise, "
+    ++ codes "au4, channels, pair, pair there, pair back, live, live trace, live told, live pair, live pair trace, "
+    ++ codes "live pair told, make NUMBER LINES TICKS, or stream OCTETS MBITS FIRST END NUMBER\n"
 
--- ---- a line for each command
+-- ---- of each command
 abbrev pub command_of : List (List ℕ) → Option WalkCommand
 command_of words =
     option_or (option_or (option_or (option_or (option_or (option_or (option_or (option_or (option_or
@@ -93,61 +96,22 @@ HandsBack source walk (H4 line) = HandsScript source walk
 HandsBack source walk (Service interval) = HandsScript source walk
 HandsBack source walk Capture = HandsScript source walk
 HandsBack source walk Gfp = HandsScript source walk
-HandsBack source walk Frames = walk ≡ None
-HandsBack source walk Decode = walk ≡ None
-HandsBack source walk Noise = walk ≡ None
-HandsBack source walk Au4 = walk ≡ None
-HandsBack source walk Channels = walk ≡ None
-HandsBack source walk Pair = walk ≡ None
-HandsBack source walk (OneWay way) = walk ≡ None
-HandsBack source walk (Live asked) = walk ≡ None
-HandsBack source walk (LivePair asked) = walk ≡ None
 HandsBack source walk (Make number lines ticks) = IsWalkOf (load number lines ticks) walk
-HandsBack source walk (Stream rate) = walk ≡ None
+HandsBack source walk other = walk ≡ None
 
 -- they run the script that the input says, and write its report
 abbrev pub RunsScript : WalkCommand → Type 0
 RunsScript Walk = Unit {0}
 RunsScript Trace = Unit {0}
-RunsScript Fates = ⊥
-RunsScript Check = ⊥
-RunsScript (H4 line) = ⊥
-RunsScript (Service interval) = ⊥
-RunsScript Capture = ⊥
-RunsScript Gfp = ⊥
-RunsScript Frames = ⊥
-RunsScript Decode = ⊥
-RunsScript Noise = ⊥
-RunsScript Au4 = ⊥
-RunsScript Channels = ⊥
-RunsScript Pair = ⊥
-RunsScript (OneWay way) = ⊥
-RunsScript (Live asked) = ⊥
-RunsScript (LivePair asked) = ⊥
-RunsScript (Make number lines ticks) = ⊥
-RunsScript (Stream rate) = ⊥
+RunsScript other = ⊥
 
 -- the numbers of a command are within their bounds
 abbrev pub Fits : WalkCommand → Type 0
-Fits Walk = Unit {0}
-Fits Trace = Unit {0}
-Fits Fates = Unit {0}
-Fits Check = Unit {0}
 Fits (H4 line) = line ≤ 127
 Fits (Service interval) = IsWithin 1 most_ticks interval
-Fits Capture = Unit {0}
-Fits Gfp = Unit {0}
-Fits Frames = Unit {0}
-Fits Decode = Unit {0}
-Fits Noise = Unit {0}
-Fits Au4 = Unit {0}
-Fits Channels = Unit {0}
-Fits Pair = Unit {0}
-Fits (OneWay way) = Unit {0}
-Fits (Live asked) = Unit {0}
-Fits (LivePair asked) = Unit {0}
 Fits (Make number lines ticks) = IsWithin 1 64 lines × IsWithin 1 most_drawn_ticks ticks
 Fits (Stream rate) = IsRate rate
+Fits other = Unit {0}
 
 -- ---- of the words of a command line
 abbrev pub command_in : List (String Global) → Option WalkCommand

@@ -22,8 +22,8 @@ use std::alloc::Global;
 /// Runs the command that the words say: what each reads and writes stands at its name in `WalkCommand`, and exactly
 /// in the definition of its answer.
 ///
-/// The status is 2 where the words are no command, 3 where the input can't be read, 8 where it or the text of
-/// `stream` has more than 67,108,864 octets, 5 where one of its lines is faulty, or of a capture its head or
+/// The status is 2 where the words are no command, 3 where the input can't be read, 8 where it, or the script that
+/// `stream`, `pair there` or `pair back` would write, has more than 67,108,864 octets, 5 where one of its lines is faulty, or of a capture its head or
 /// a record, 6 where a script's slips, spread or lag don't fit, it has no line of the number that `h4` is
 /// told, or two scripts don't go together,
 /// 4 where an output can't be written, 7 where memory is short, and else 0. Of those that hold the first in

@@ -20,6 +20,7 @@ use Rattle.fate_check.specs.CheckText.{idle_text, early_text, early_if_any}
 use Rattle.law_model.specs.declared.script_types.Item.{Item}
 use Rattle.law_model.specs.Common.{Counts}
 use Rattle.law_walk.specs.Common.{Numbered, is_client, with_if, landed_from, landed_items, refusal_at}
+use Rattle.law_walk.proofs.LandedItemRefusalAndTotalLaws.{landed-few}
 use Rattle.fate_walks.proofs.CursorAndRulerLaws.{landed-other}
 use Rattle.fate_walks.specs.declared.walk_frames.landed_cursor.LandedFrame.{LandedFrame}
 use Rattle.fate_walks.specs.walk_frames.ItemCursor.{Cursor, frames_before_item, frames_left, IsAt, IsNext, IsPast}
@@ -207,23 +208,6 @@ early-past leg s row cursor early come past =
     omega (arith, ap (λ l. length (filter (is_early leg row) l)) past.none, come.sum)
 
 -- ---- there are few
-if-few : (there : Bool) (item : Numbered) (items : List Numbered) → length (with_if there item items) ≤ suc (length items)
-if-few true item items = omega arith
-if-few false item items = omega arith
-
-landed-few : (a b i : ℕ) (items : List Item) → length (landed_from a b i items) ≤ length items
-unfolding landed_from
-landed-few a b i [] = omega arith
-landed-few a b i (item ∷ items) =
-    elim (cases_Bool (is_client item.kind)) [
-      | inl client ↦ rw client
-          (let own = if-few (nat_lt 0 a) (record { number = i; item = item }) (landed_from (a - 1) b (suc i) items) in
-          let rest = landed-few (a - 1) b (suc i) items in omega (arith, own, rest))
-      | inr other ↦ rw other
-          (let own = if-few (nat_lt 0 b) (record { number = i; item = item }) (landed_from a (b - 1) (suc i) items) in
-          let rest = landed-few a (b - 1) (suc i) items in omega (arith, own, rest))
-    ]
-
 pub early-few : (leg : Leg) (s : Counts) (row : Option ℕ) (cursor : Cursor) (early : ℕ) →
     EarlyCounted leg s row cursor early → early < 4294967295
 early-few leg s row cursor early come =

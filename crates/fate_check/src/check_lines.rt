@@ -9,7 +9,7 @@ use law_model::{CommandFault, Refusal, Window};
 use text_report::TextCursor;
 
 /// Room for a line, in octets.
-pub(crate) const ROOM: usize = 128;
+pub(crate) const CHECK_LINE_ROOM: usize = 128;
 
 /// How much of each kind was found.
 #[derive(Clone, Copy, Debug, PartialEq, Eq)]

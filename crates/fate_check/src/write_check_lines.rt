@@ -15,7 +15,7 @@ ghost use Rattle.fate_check.specs.CheckText.{check_text};
 ghost use Rattle.law_model.specs.Common.{most_ticks};
 
 use crate::check_lines::{
-    Found, ROOM, check_line, early_line, idle_line, refused_line, unused_line,
+    CHECK_LINE_ROOM, Found, check_line, early_line, idle_line, refused_line, unused_line,
 };
 use crate::early_frames::count_early;
 use crate::idle_windows::{is_idle, windows_of};
@@ -56,7 +56,7 @@ fn write_if_unused<K: ByteSink>(
     if !is_unused(&seen.rows.packets, rows, member) {
         return 0;
     }
-    let mut line = [0u8; ROOM];
+    let mut line = [0u8; CHECK_LINE_ROOM];
     let end = unused_line(member, &mut line);
     got.line(&line[..end]);
     1
@@ -107,7 +107,7 @@ fn write_if_idle<K: ByteSink>(
     ) {
         return 0;
     }
-    let mut line = [0u8; ROOM];
+    let mut line = [0u8; CHECK_LINE_ROOM];
     let end = idle_line(member, window, &mut line);
     got.line(&line[..end]);
     1
@@ -167,7 +167,7 @@ fn write_early<K: ByteSink>(walk: &Walk, seen: &SeenWalk, got: &mut GotLines<K>)
     if early == 0 {
         return 0;
     }
-    let mut line = [0u8; ROOM];
+    let mut line = [0u8; CHECK_LINE_ROOM];
     let end = early_line(early, row, &mut line);
     got.line(&line[..end]);
     early
@@ -180,8 +180,8 @@ fn write_refused<K: ByteSink>(walk: &Walk, got: &mut GotLines<K>) -> u32
         (before ++ refused_items (refusals_of (leg_of walk.now.script) walk.now.counts)) }
     ensures count { result ≡ length (refusals_of (leg_of walk.now.script) walk.now.counts) }
 {
-    let mut refusals = walk.refusals();
-    let mut line = [0u8; ROOM];
+    let mut refusals = walk.landing().refusals();
+    let mut line = [0u8; CHECK_LINE_ROOM];
     while let Some((item, why)) = refusals.next() {
         let end = refused_line(item, why, &mut line);
         got.line(&line[..end]);
@@ -195,7 +195,7 @@ fn write_end<K: ByteSink>(found: Found, got: &mut GotLines<K>)
         HasText K.written K.faults got.old start before →
         HasText K.written K.faults got.new start (before ++ last_text found) }
 {
-    let mut line = [0u8; ROOM];
+    let mut line = [0u8; CHECK_LINE_ROOM];
     let end = check_line(found, &mut line);
     got.line(&line[..end]);
 }

@@ -43,6 +43,7 @@ use Rattle.fate_service.proofs.StretchSumAndQueuePeakLaws.{got_octets, lost_one,
 use Rattle.fate_service.proofs.StretchSumAndQueuePeakLaws.{offered-octets, refused-frames, refused-octets, got-frames}
 use Rattle.fate_service.proofs.StretchSumAndQueuePeakLaws.{got-octets, lost-frames, lost-octets}
 use Rattle.law_walk.proofs.AcceptedFrameAndDrainedWalkLaws.{counts-within}
+use Rattle.law_walk.proofs.LandedItemRefusalAndTotalLaws.{landed-few}
 use Rattle.law_walk.proofs.WalkPlanAndPoppedCellLaws.{sound-walks}
 use Rattle.fate_engine.proofs.GotFateAndLandedFrameLaws.{got-delivered}
 use Rattle.fate_service.specs.declared.stretch_counts.Came.{Came}
@@ -239,23 +240,6 @@ taken-past leg s cursor landed done come past =
     ∙ append-nil done)
 
 -- ---- How many frames a walk has at most.
-if-few : (there : Bool) (item : Numbered) (items : List Numbered) → length (with_if there item items) ≤ suc (length items)
-if-few true item items = omega arith
-if-few false item items = omega arith
-
-landed-few : (a b i : ℕ) (items : List Item) → length (landed_from a b i items) ≤ length items
-unfolding landed_from
-landed-few a b i [] = omega arith
-landed-few a b i (item ∷ items) =
-    elim (cases_Bool (is_client item.kind)) [
-      | inl client ↦ rw client
-          (let own = if-few (nat_lt 0 a) (record { number = i; item = item }) (landed_from (a - 1) b (suc i) items) in
-          let rest = landed-few (a - 1) b (suc i) items in omega (arith, own, rest))
-      | inr other ↦ rw other
-          (let own = if-few (nat_lt 0 b) (record { number = i; item = item }) (landed_from a (b - 1) (suc i) items) in
-          let rest = landed-few a (b - 1) (suc i) items in omega (arith, own, rest))
-    ]
-
 then-few : (fate : ℕ → Fate) (item : Numbered) (why : Option Refusal) (kind : ItemKind) (i n : ℕ)
     (others : ℕ → List EndedItem) → ((m : ℕ) → length (others m) ≤ n) →
     length (ended_then fate item why kind i others) ≤ suc n

@@ -1,30 +1,25 @@
 -- A frame lands only once as many ticks are made as it is due after, so no more ticks are told than those and one.
-use Rattle.std.proofs.Common.{◌≡◌, ℕ, zero, suc, ◌+◌, ◌-◌, ◌<◌, ◌≤◌, ◌&&◌, max, nat_le, nat_lt, Bool, true, false, inl}
-use Rattle.std.proofs.Common.{inr, List, [], ◌∷◌, ◌++◌, map, take, length, get_or, slice_get, All, Option, Some, None}
-use Rattle.std.proofs.Common.{option_map, refl, sym, ◌∙◌, ap, subst, arith, lt-ltb, le-ltb}
+use Rattle.std.proofs.Common.{◌≡◌, ℕ, zero, suc, ◌+◌, ◌-◌, ◌<◌, ◌≤◌, max, nat_lt, true, inl, inr, List, [], ◌∷◌, ◌++◌}
+use Rattle.std.proofs.Common.{map, take, slice_get, All, Option, Some, None, refl, sym, ◌∙◌, ap, subst, arith, lt-ltb}
 use Rattle.std.proofs.lemmas.Bool.{cases_Bool, cases_lt}
-use Rattle.std.proofs.lemmas.Option.{same_Some, slice_get-map}
+use Rattle.std.proofs.lemmas.Option.{same_Some}
 use Rattle.std.proofs.lemmas.List.Elements.{All-nil, All-cons, All-head, All-tail}
-use Rattle.law_model.specs.Common.{Leg, Counts, IsWithin, DueFrame, offer_of, offers_of, frame_dues, command_dues, dues_of}
-use Rattle.law_model.specs.Common.{LinePath, LineCounts, Plan, land_due, held, full, is_missing, tick_full, tick_held, tick}
-use Rattle.law_model.specs.Common.{in_send, in_receive, carry_on, carry_at, in_return, take_popped, pop_lines}
-use Rattle.law_model.specs.Common.{is_back_full, take_row, step, run, begin}
-use Rattle.law_model.specs.session.Counts.{back}
+use Rattle.law_model.specs.Common.{Leg, Counts, IsWithin, DueFrame, offer_of, offers_of, frame_dues, Plan, step, run}
+use Rattle.law_model.specs.Common.{begin}
 use Rattle.law_model.specs.declared.item_refusals.Refusal.{Refusal}
 use Rattle.law_model.specs.declared.script_types.Item.{Item}
 use Rattle.law_model.specs.declared.script_types.ItemKind.{ItemKind}
 use Rattle.law_model.specs.declared.script_types.ItemKind.TheVariants.{Frame, Add, Remove}
 use Rattle.law_model.specs.declared.walk_events.Event.{Event}
-use Rattle.law_model.specs.declared.walk_events.Event.TheVariants.{Accept, Tick, Carry, Back, Take, Command}
-use Rattle.law_walk.specs.Common.{walk_plan, IsWalked, Numbered, is_client, with_if, landed_from, landed_items, refusal_at}
+use Rattle.law_progress.proofs.EventOutcomeLaws.{step-gives}
+use Rattle.law_walk.specs.Common.{walk_plan, IsWalked, Numbered, is_client, with_if, landed_from, refusal_at}
 use Rattle.law_walk.proofs.AcceptedFrameAndDrainedWalkLaws.{offers_by}
 use Rattle.law_walk.proofs.LandedItemRefusalAndTotalLaws.{frame-dues}
 use Rattle.fate_engine.specs.Common.{refused, accepted, Ended, ended_by, ended_then, ended_on, ended_of}
 use Rattle.fate_engine.specs.declared.fate_law.Fate.{Fate}
 use Rattle.fate_walks.specs.walk_fates.MadeWalk.{fates_in}
 use Rattle.fate_walks.proofs.FatesAndSeenRowsLaws.{with-skips, landed-client, landed-other}
-use Rattle.fate_service.specs.declared.landed_frames.OfferedFrame.{OfferedFrame}
-use Rattle.fate_service.specs.FrameColumns.{offered_frame, offered_of}
+use Rattle.fate_service.specs.FrameColumns.{offered_of}
 use Rattle.fate_service.specs.Stretches.{told_on}
 use Rattle.fate_service.specs.ServiceText.{told_of}
 use Rattle.fate_service.proofs.LandedFrameTallyLaws.{ticks-told}
@@ -35,88 +30,23 @@ module _ (plan : Plan) where
   abbrev InTime : Counts → Type 0
   InTime s = (k due : ℕ) → k < s.frames → slice_get (frame_dues plan.items) k ≡ Some due → due ≤ s.ticks
 
-  frame-lands : (found : Option ℕ) (s : Counts) → slice_get (frame_dues plan.items) s.frames ≡ found → InTime s →
-      InTime (land_due s.ticks found s (record s { frames = s.frames + 1 })).counts
-  frame-lands None s is here = here
-  frame-lands (Some due) s is here =
-      elim (cases_lt s.ticks due) [
-        | inl late ↦ rw (lt-ltb s.ticks due late) here
-        | inr now ↦ rw (le-ltb s.ticks due now) (λ k other low there. elim (cases_lt k s.frames) [
-          | inl before ↦ here k other before there
-          | inr last ↦
-              let at : s.frames ≡ k = omega (arith, low, last) in
-              let same = same_Some due other (sym is ∙ ap (slice_get (frame_dues plan.items)) at ∙ there) in
-              omega (arith, same, now)
-        ])
-      ]
-
-  command-lands : (found : Option ℕ) (s : Counts) → InTime s →
-      InTime (land_due s.ticks found s (record s { commands = s.commands + 1 })).counts
-  command-lands None s here = here
-  command-lands (Some due) s here = elim (cases_Bool (nat_lt s.ticks due)) [ inl e ↦ rw e here | inr e ↦ rw e here ]
-
-  fills : (line : Option ℕ) (s : Counts) → InTime s → InTime (tick_full line plan s).counts
-  fills (Some line) s here = here
-  fills None s here =
-      elim (cases_Bool (is_missing plan s)) [
-        | inl e ↦ rw e here
-        | inr e ↦ rw e (λ k due low there. (let now = here k due low there in omega (arith, now)))
-      ]
-
-  holds : (item : Option ℕ) (s : Counts) → InTime s → InTime (tick_held item plan s).counts
-  holds (Some item) s here = here
-  holds None s here = fills (full plan.ticks s.ticks 0 s.lines) s here
-
-  ticks : (s : Counts) → InTime s → InTime (tick plan s).counts
-  ticks s here =
-      elim (cases_Bool (nat_le plan.ticks s.ticks)) [
-        | inl e ↦ rw e here
-        | inr e ↦ rw e (holds (held s.ticks s.frames s.commands 0 plan.items) s here)
-      ]
-
-  carries-on : (s : Counts) (m : ℕ) (path : LinePath) (line : LineCounts) → InTime s →
-      InTime (carry_on plan s m path line).counts
-  carries-on s m path line here =
-      elim (cases_Bool (nat_lt (plan.ticks + path.delay) line.carried)) [
-        | inl e ↦ rw e here
-        | inr e ↦ rw e (elim (cases_Bool (nat_lt line.carried plan.ticks && nat_le (in_send plan.ticks s.ticks line) 0)) [
-          | inl f ↦ rw f here
-          | inr f ↦ rw f (elim (cases_Bool (nat_le plan.ring (in_receive path line))) [
-            | inl g ↦ rw g here
-            | inr g ↦ rw g here
-          ])
-        ])
-      ]
-
-  carries : (s : Counts) (m : ℕ) (path : Option LinePath) (line : Option LineCounts) → InTime s →
-      InTime (carry_at plan s m path line).counts
-  carries s m (Some path) (Some line) here = carries-on s m path line here
-  carries s m (Some path) None here = here
-  carries s m None line here = here
-
-  pops : (s : Counts) (lines : List LineCounts) (waiting : Option ℕ) → InTime s →
-      InTime (take_popped s lines waiting).counts
-  pops s lines (Some line) here = here
-  pops s lines None here = here
-
-  takes : (s : Counts) → InTime s → InTime (take_row plan s).counts
-  takes s here =
-      elim (cases_Bool (nat_le plan.ticks s.rows)) [
-        | inl e ↦ rw e here
-        | inr e ↦ rw e (elim (cases_Bool (is_back_full s)) [
-          | inl f ↦ rw f here
-          | inr f ↦ rw f (pops s (pop_lines s.rows 0 plan.paths s.lines).lines
-              (pop_lines s.rows 0 plan.paths s.lines).waiting here)
-        ])
-      ]
-
   steps : (s : Counts) (event : Event) → InTime s → InTime (step plan s event).counts
-  steps s Accept here = frame-lands (slice_get (frame_dues plan.items) s.frames) s refl here
-  steps s Command here = command-lands (slice_get (command_dues plan.items) s.commands) s here
-  steps s Tick here = ticks s here
-  steps s (Carry m) here = carries s m (slice_get plan.paths m) (slice_get s.lines m) here
-  steps s Back here = elim (cases_Bool (nat_le (in_return s) 0)) [ inl e ↦ rw e here | inr e ↦ rw e here ]
-  steps s Take here = takes s here
+  steps s event here = step-gives (λ next. InTime next.counts) plan s event (record {
+    stalls = λ cause. here;
+    accepts = λ due is now k other low there. elim (cases_lt k s.frames) [
+      | inl before ↦ here k other before there
+      | inr last ↦
+          let at : s.frames ≡ k = omega (arith, low, last) in
+          let same = same_Some due other (sym is ∙ ap (slice_get (frame_dues plan.items)) at ∙ there) in
+          omega (arith, same, now)
+    ];
+    commands = λ due is now. here;
+    ticks = λ none k due low there. (let now = here k due low there in omega (arith, now));
+    carries = λ lines. here;
+    backs = here;
+    waits = λ line. here;
+    takes = here;
+  })
 
   runs : (s : Counts) (events : List Event) → InTime s → InTime (run plan s events)
   unfolding run

@@ -1,52 +1,48 @@
 -- The queue in a tick counts the frames that wait once those have landed that land in it.
 use Rattle.std.proofs.Common.{◌≡◌, ℕ, zero, suc, ◌+◌, ◌-◌, ◌<◌, ◌≤◌, min, nat_le, nat_lt, Bool, true, false, inl, inr}
-use Rattle.std.proofs.Common.{List, [], ◌∷◌, ◌++◌, map, filter, fold, take, length, get_or, All, Option, Some, None}
-use Rattle.std.proofs.Common.{option_map, refl, sym, ◌∙◌, ap, ap₂, subst, arith, append-nil, append_assoc, length-append}
-use Rattle.std.proofs.Common.{take_at, le-leb, lt-ltb, le-ltb, leb-false, ltb-true}
-use Rattle.std.specs.Prelude.{if◌then◌else◌, ◌||◌}
+use Rattle.std.proofs.Common.{List, [], ◌∷◌, ◌++◌, map, filter, fold, take, length, All, Option, Some, None, option_map}
+use Rattle.std.proofs.Common.{refl, sym, ◌∙◌, ap, ap₂, subst, arith, append-nil, append_assoc, length-append, take_at}
+use Rattle.std.proofs.Common.{le-leb, lt-ltb, le-ltb, leb-false, ltb-true}
+use Rattle.std.specs.Prelude.{if◌then◌else◌}
 use Rattle.std.specs.List.Sorted.{IsNonDecreasingBy}
 use Rattle.std.proofs.lemmas.Bool.{cases_Bool, cases_lt, lt-leb}
 use Rattle.std.proofs.lemmas.List.{length-map}
 use Rattle.std.proofs.lemmas.List.Sums.{sum-map}
 use Rattle.std.proofs.lemmas.List.Concat.{flat_map-append}
-use Rattle.std.proofs.lemmas.List.Elements.{All-nil, All-cons, All-head, All-tail, All-append, All-weaker, filter-append}
-use Rattle.std.proofs.lemmas.List.Elements.{filter_passes}
+use Rattle.std.proofs.lemmas.List.Elements.{All-nil, All-cons, All-head, All-tail, All-append, All-weaker}
+use Rattle.std.proofs.lemmas.List.Elements.{filter-append, filter_passes}
 use Rattle.std.proofs.lemmas.List.Sorted.{IsNonDecreasingBy-take}
 use Rattle.law_model.proofs.ListLaws.{rest-sorted}
 use Rattle.law_model.proofs.StreamOfPiecesLaws.{length-stream_of}
 use Rattle.law_model.specs.Common.{Piece, idle, client, Extent, extents, Leg, Counts, IsSound, Scenario, DueFrame, Told}
-use Rattle.law_model.specs.Common.{offer_of, offers_of, scenario_by, comes_at, frames_at, Stream, frame_refusal, offered}
-use Rattle.law_model.specs.Common.{offered_by, next_by, reaching, place_of, stream_before, size, frames_in, kept_by}
-use Rattle.law_model.specs.Common.{accepted_offers, offers_before, frames_before, most_waiting, stream_of, size_of}
-use Rattle.law_model.specs.Common.{shortest_frame, longest_frame}
+use Rattle.law_model.specs.Common.{offer_of, offers_of, scenario_by, comes_at, frames_at, Stream, frame_refusal}
+use Rattle.law_model.specs.Common.{offered, offered_by, next_by, reaching, place_of, stream_before, size, frames_in}
+use Rattle.law_model.specs.Common.{kept_by, accepted_offers, offers_before, frames_before, most_waiting, stream_of}
+use Rattle.law_model.specs.Common.{size_of}
 use Rattle.law_model.specs.declared.item_refusals.AcceptFault.{AcceptFault}
-use Rattle.law_model.specs.declared.item_refusals.AcceptFault.TheVariants.{Length, QueueFull}
-use Rattle.law_model.specs.declared.item_refusals.Refusal.{Refusal}
 use Rattle.law_model.specs.declared.item_refusals.Refusal.TheVariants.{Frame as frame_fault}
 use Rattle.law_model.specs.declared.script_types.Item.{Item}
 use Rattle.law_model.specs.declared.script_types.ItemKind.{ItemKind}
 use Rattle.law_model.specs.declared.script_types.ItemKind.TheVariants.{Frame, Add, Remove}
-use Rattle.law_session.specs.LandingByStep.{landed, is_come}
-use Rattle.law_session.proofs.ClientStreamAndReplayLaws.{stream_before-frames, stream_before-reaches, stream_before-next}
-use Rattle.law_session.proofs.ClientStreamAndReplayLaws.{offered_all-pieces, offers_land, stream-reaches}
-use Rattle.law_loss.proofs.ClientFrameExtentLaws.{filter-none, filter-skip, filter-keep, IsBetween, extents-between}
-use Rattle.law_loss.proofs.ClientFrameExtentLaws.{extents-append}
+use Rattle.law_session.specs.LandingByStep.{is_come}
+use Rattle.law_session.proofs.ClientStreamAndReplayLaws.{stream_before-frames, offered_all-pieces, offers_land}
+use Rattle.law_session.proofs.ClientStreamAndReplayLaws.{stream-reaches}
+use Rattle.law_loss.proofs.ClientFrameExtentLaws.{filter-none, filter-keep, IsBetween, extents-between, extents-append}
 use Rattle.law_loss.proofs.ItemDueTicksLaws.{offers_rise}
 use Rattle.law_loss.proofs.SessionStreamLossLaws.{frames-extents, pieces-begin}
-use Rattle.law_walk.specs.Common.{IsWalked, session_of, Numbered, is_client, with_if, landed_from, landed_items}
-use Rattle.law_walk.specs.Common.{landed_scenario, told_before, refusal_at, stream_met, frame_by}
+use Rattle.law_walk.specs.Common.{IsWalked, session_of, Numbered, is_client, with_if, landed_from, landed_scenario}
+use Rattle.law_walk.specs.Common.{told_before, refusal_at, stream_met, frame_by}
 use Rattle.law_walk.proofs.AcceptedFrameAndDrainedWalkLaws.{judged, landed-judged, kind-judged, offers_by}
 use Rattle.law_walk.proofs.LandedItemRefusalAndTotalLaws.{told-streams}
 use Rattle.law_walk.proofs.WalkPlanAndPoppedCellLaws.{sound-walks}
-use Rattle.fate_engine.specs.Common.{sides, begun_before, End, refused, accepted, Ended, ended_by, ended_then, ended_on}
-use Rattle.fate_engine.specs.Common.{ended_of}
+use Rattle.law_live.proofs.QueueAndRoomLaws.{folded-few, stream-few}
+use Rattle.fate_engine.specs.Common.{sides, begun_before, Ended, ended_then, ended_on, ended_of}
 use Rattle.fate_engine.specs.declared.fate_law.Fate.{Fate}
 use Rattle.fate_engine.proofs.FrameFateAndPieceLaws.{place-up}
 use Rattle.fate_walks.specs.walk_fates.MadeWalk.{fates_in}
 use Rattle.fate_walks.proofs.FatesAndSeenRowsLaws.{with-skips, landed-client, landed-other}
 use Rattle.fate_service.specs.FrameColumns.{accepted_of}
-use Rattle.fate_service.specs.service_law.LinesAsNumbers.{StretchLine, stretch_line, stretches_in, queue_of}
-use Rattle.fate_service.specs.service_law.LinesAsNumbers.{waiting_in}
+use Rattle.fate_service.specs.service_law.LinesAsNumbers.{StretchLine, stretch_line, stretches_in, queue_of, waiting_in}
 use Rattle.fate_service.specs.service_law.LineSums.{FollowOn, IsPeak}
 use Rattle.fate_service.specs.ServiceText.{known_of, told_of}
 use Rattle.fate_service.specs.Stretches.{spans_of}
@@ -168,53 +164,6 @@ module _ (scenario : Scenario) (cells : List (Option Told)) where
       let both = length-append (frames_in stream.pieces) stream.waiting in
       let now = offered-waits come stream in
       omega (arith, all, parts, before, known, both, now)
-
--- ---- no more than 256 wait
-abbrev Few : Stream → Type 0
-Few stream = length stream.waiting ≤ most_waiting
-
-offered-few : (frame : List ℕ) (stream : Stream) → Few stream → Few (offered stream frame)
-offered-few frame stream few =
-    elim (nat_lt (length frame) shortest_frame || nat_lt longest_frame (length frame)) as (λ odd. Few (offered_by
-    (if odd then Some (Length (length frame))
-    else if nat_le most_waiting (length stream.waiting) then Some (QueueFull most_waiting) else None) frame stream)) [
-      | true ↦ few
-      | false ↦ elim (nat_le most_waiting (length stream.waiting))
-          as (λ full. nat_le most_waiting (length stream.waiting) ≡ full →
-          Few (offered_by (if full then Some (QueueFull most_waiting) else None) frame stream)) [
-            | true ↦ λ e. few
-            | false ↦ λ e.
-                let room = leb-false most_waiting (length stream.waiting) e in
-                let all = length-append stream.waiting (frame ∷ []) in omega arith
-          ] refl
-    ]
-
-folded-few : (frames : List (List ℕ)) (stream : Stream) → Few stream → Few (fold offered stream frames)
-folded-few [] stream few = few
-folded-few (frame ∷ frames) stream few = folded-few frames (offered stream frame) (offered-few frame stream few)
-
-next-few : (waiting : List (List ℕ)) (pieces : List Piece) → length waiting ≤ most_waiting → Few (next_by waiting pieces)
-next-few [] pieces few = omega arith
-next-few (frame ∷ waiting) pieces few = omega arith
-
-reaching-few : (steps place : ℕ) (stream : Stream) → Few stream → Few (reaching steps place stream)
-unfolding reaching
-reaching-few zero place stream few = few
-reaching-few (suc steps) place stream few =
-    elim (nat_le place (size stream.pieces))
-    as (λ b. Few (if b then stream else reaching steps place (next_by stream.waiting stream.pieces))) [
-      | true ↦ few
-      | false ↦ reaching-few steps place (next_by stream.waiting stream.pieces)
-          (next-few stream.waiting stream.pieces few)
-    ]
-
-stream-few : (scenario : Scenario) (cells : List (Option Told)) (t : ℕ) → Few (stream_before scenario cells t)
-unfolding stream_before
-stream-few scenario cells zero = omega arith
-stream-few scenario cells (suc t) =
-    reaching-few (place_of scenario cells (suc t)) (place_of scenario cells (suc t))
-    (fold offered (stream_before scenario cells t) (frames_at scenario t))
-    (folded-few (frames_at scenario t) (stream_before scenario cells t) (stream-few scenario cells t))
 
 -- ---- the due ticks of the frames that have landed and were accepted
 abbrev kept-due : Option AcceptFault → ℕ → List ℕ

@@ -209,7 +209,7 @@ pub(crate) fn land_frames(
     ensures landed { IfOk result (AreLanded (ended_of (leg_of walk.now.script) walk.now.counts)) }
     ensures few { IfOk result (λ landed. length landed.offered.items ≤ most_items) }
 {
-    let mut landed = LandedFrames::new(alloc, walk.landed_frames(), walk.totals().frames)?;
+    let mut landed = LandedFrames::new(alloc, walk.landing().landed(true), walk.totals().frames)?;
     let mut cursor = FrameCursor::new(walk);
     while let Some(frame) = cursor.next(walk) {
         take_frame(&mut landed, frame, walk, seen)?;

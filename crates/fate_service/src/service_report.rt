@@ -24,7 +24,7 @@ use crate::landed_frames::{LandedFrames, OfferedFrame, land_frames};
 use crate::outages::{Outage, find_outages, losses};
 use crate::row_states::{RowState, row_states};
 use crate::service_text::{
-    Ends, ROOM, delays_line, members_line, outage_line, service_line, stretch_line,
+    Ends, SERVICE_LINE_ROOM, delays_line, members_line, outage_line, service_line, stretch_line,
 };
 use crate::stretch_counts::count_stretch;
 use crate::width_run::WidthRun;
@@ -68,7 +68,7 @@ fn write_run<K: ByteSink>(run: WidthRun, size: u16, got: &mut GotLines<K>)
         HasText K.written K.faults got.old start before →
         HasText K.written K.faults got.new start (before ++ members_text size run) }
 {
-    let mut line = [0u8; ROOM];
+    let mut line = [0u8; SERVICE_LINE_ROOM];
     let end = members_line(run, size, &mut line);
     got.line(&line[..end]);
 }
@@ -153,7 +153,7 @@ fn write_outage<K: ByteSink>(
     let lost = losses(&survey.landed.carried, outage.first, end);
     let windows = &walk.script().config.windows;
     let cause = row_cause(windows, &seen.rows.packets, outage.first);
-    let mut line = [0u8; ROOM];
+    let mut line = [0u8; SERVICE_LINE_ROOM];
     let end = outage_line(outage, lost, cause, &mut line);
     got.line(&line[..end]);
 }
@@ -207,7 +207,7 @@ fn write_stretch<K: ByteSink>(
         (stretch_of (known_of (leg_of walk.now.script) walk.now.counts) first end)) }
 {
     let counts = count_stretch(&survey.landed, &survey.states, walk, seen, first, end);
-    let mut line = [0u8; ROOM];
+    let mut line = [0u8; SERVICE_LINE_ROOM];
     let end = stretch_line(first, end, counts, &mut line);
     got.line(&line[..end]);
 }
@@ -244,7 +244,7 @@ fn write_delays<K: ByteSink>(survey: &Survey, path: u16, got: &mut GotLines<K>)
         HasText K.written K.faults got.old start before → HasText K.written K.faults got.new start
         (before ++ delays_text (delays_of survey.now.landed.carried.items) path) }
 {
-    let mut line = [0u8; ROOM];
+    let mut line = [0u8; SERVICE_LINE_ROOM];
     let end = delays_line(find_delays(&survey.landed.carried), path, &mut line);
     got.line(&line[..end]);
 }
@@ -274,7 +274,7 @@ fn write_end<K: ByteSink>(
         taken: totals.taken,
         starts: starts_true(&seen.ruler, &seen.rows.segments),
     };
-    let mut line = [0u8; ROOM];
+    let mut line = [0u8; SERVICE_LINE_ROOM];
     let end = service_line(told, counts, ends, &mut line);
     got.line(&line[..end]);
 }

@@ -17,7 +17,7 @@ use fate_engine::fate_text::{add_cause, truth};
 use text_report::TextCursor;
 
 /// Room for a line, in octets.
-pub(crate) const ROOM: usize = 448;
+pub(crate) const SERVICE_LINE_ROOM: usize = 448;
 
 /// What the last line says beside the counts.
 #[derive(Clone, Copy)]

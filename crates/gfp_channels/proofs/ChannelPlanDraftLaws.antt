@@ -11,8 +11,8 @@ use Rattle.text_lines.specs.LanguageTable.{next_by}
 use Rattle.text_lines.proofs.TextLineAndWordLaws.{where_none, number_ok, digits_ok, one_field, two_fields}
 use Rattle.text_lines.proofs.LineLanguageAndTableLaws.{IsPlaced, IsSound, Keeps, said_valid}
 use Rattle.gfp_model.specs.declared.linear_model.Cut.{Cut}
-use Rattle.gfp_channels.specs.declared.channel_link.channel_keyword.Keyword.{Keyword}
-use Rattle.gfp_channels.specs.declared.channel_link.channel_draft.Draft.{Draft}
+use Rattle.gfp_channels.specs.declared.channel_link.channel_keyword.ChannelKeyword.{ChannelKeyword}
+use Rattle.gfp_channels.specs.declared.channel_link.channel_draft.ChannelDraft.{ChannelDraft}
 use Rattle.gfp_channels.specs.channel_link.ChannelTextLines.{place, overlap, offer_said, cut_said, with_cut, after}
 use Rattle.gfp_channels.specs.channel_link.ChannelTextLines.{at_first, plan_table}
 use Rattle.gfp_channels.specs.channel_link.Plan.{AreCuts, IsOfOctets, IsPlan, plan_in, plan_of}
@@ -28,7 +28,7 @@ use Rattle.gfp_channels.specs.channel_link.ChannelReportText.{after_offers, deli
 use Rattle.gfp_channels.specs.channel_link.FramesOfPlan.{plan_channels, HasTrueStarts, as_frame, accepted_by}
 use Rattle.gfp_channels.specs.channel_link.FramesOfPlan.{carried_by, kept_by, delivered_by, IsPlanReport}
 use Rattle.std.specs.Prelude.{Ok}
-use Rattle.gfp_channels.specs.declared.channel_link.channel_keyword.Keyword.TheVariants as word
+use Rattle.gfp_channels.specs.declared.channel_link.channel_keyword.ChannelKeyword.TheVariants as word
 
 -- ---- What a draft meets, the draft after one more line meets as well.
 -- where the last cut ends, from a place on
@@ -36,7 +36,7 @@ abbrev end_behind : ℕ → List Cut → ℕ
 end_behind place cuts = fold (λ n cut. cut.end) place cuts
 
 -- what is said where the next line may stand from a place on
-pub record IsDraft (next : ℕ) (d : Draft) : Type 0 where
+pub record IsDraft (next : ℕ) (d : ChannelDraft) : Type 0 where
   pub channels : 1 ≤ next → (1 ≤ d.channels) × (d.channels ≤ 256)
   pub octets : 2 ≤ next → 1 ≤ d.octets
   pub few : d.octets ≤ 100000000
@@ -53,7 +53,7 @@ cuts-more place most [] cut are behind some inside = (behind, some, inside, tt)
 cuts-more place most (first ∷ cuts) cut are behind some inside =
     (are.0, are.1, are.2, cuts-more first.end most cuts cut are.3 behind some inside)
 
-cut-more : (next : ℕ) (d : Draft) (cut : Cut) → IsDraft next d → 2 ≤ next → d.end ≤ cut.first → cut.first < cut.end
+cut-more : (next : ℕ) (d : ChannelDraft) (cut : Cut) → IsDraft next d → 2 ≤ next → d.end ≤ cut.first → cut.first < cut.end
     → cut.end ≤ d.octets → IsDraft 3 (with_cut d cut)
 cut-more next d cut is late behind some inside = record {
   channels = λ at. is.channels (omega (arith, late));
@@ -82,7 +82,7 @@ draft-first = record {
   end = refl;
 }
 
-draft-after : (next : ℕ) (d : Draft) (k : Keyword) (ws : List (List ℕ)) → IsDraft next d → IsPlaced 2 next (place k)
+draft-after : (next : ℕ) (d : ChannelDraft) (k : ChannelKeyword) (ws : List (List ℕ)) → IsDraft next d → IsPlaced 2 next (place k)
     → IsSound plan_table d k ws → IsDraft (next_by plan_table k) (after d k ws)
 draft-after next d word.Channels ws is at fine =
     let count = number_ok 2 1 256 (word_at 0 ws) (one_field (within 1 256) 2 ws fine.count fine.each) in
@@ -178,7 +178,7 @@ plan-kept plan cid is starts =
     (ordered 0 plan.octets plan.cuts is.cuts) starts
 
 -- ---- What a text says is a plan of channels.
-whole_plan : (next : ℕ) (d : Draft) → 2 ≤ next → IsDraft next d → IsPlan (plan_in d)
+whole_plan : (next : ℕ) (d : ChannelDraft) → 2 ≤ next → IsDraft next d → IsPlan (plan_in d)
 whole_plan next d late is =
     let channels = is.channels (omega (arith, late)) in
     record {

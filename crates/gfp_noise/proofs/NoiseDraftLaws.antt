@@ -14,8 +14,8 @@ use Rattle.gfp_model.specs.declared.fcs_model.Flip.{Flip}
 use Rattle.gfp_noise.specs.flip_law.FlipPlaces.{at, LiesIn, IsRising}
 use Rattle.gfp_noise.specs.flip_law.FlippedStream.{fcs_stream, IsFrame}
 use Rattle.gfp_noise.proofs.FlippedFcsStreamLaws.{sizes, length-fcs_stream, delivered-places}
-use Rattle.gfp_noise.specs.declared.noise_link.noise_keyword.Keyword.{Keyword}
-use Rattle.gfp_noise.specs.declared.noise_link.noise_draft.Draft.{Draft}
+use Rattle.gfp_noise.specs.declared.noise_link.noise_keyword.NoiseKeyword.{NoiseKeyword}
+use Rattle.gfp_noise.specs.declared.noise_link.noise_draft.NoiseDraft.{NoiseDraft}
 use Rattle.gfp_noise.specs.noise_link.NoiseTextLines.{place, not_rising, frame_said, flip_said, with_frame, with_flip}
 use Rattle.gfp_noise.specs.noise_link.NoiseTextLines.{after, at_first, noise_table}
 use Rattle.std.specs.Prelude.{Ok}
@@ -25,7 +25,7 @@ use Rattle.gfp_noise.specs.declared.noise_link.noise_draft.Noise.{Noise}
 use Rattle.gfp_noise.specs.noise_link.Noise.{noise_in, noise_of, IsNoise}
 use Rattle.gfp_noise.specs.noise_link.NoiseReportText.{received, causes, counts_text, noise_text, flip_bits, AreSingle}
 use Rattle.gfp_noise.specs.noise_link.NoiseReportText.{untouched_text}
-use Rattle.gfp_noise.specs.declared.noise_link.noise_keyword.Keyword.TheVariants as word
+use Rattle.gfp_noise.specs.declared.noise_link.noise_keyword.NoiseKeyword.TheVariants as word
 
 -- ---- What a draft meets, the draft after one more line meets as well.
 -- the first bit behind those of flips, from one on
@@ -33,7 +33,7 @@ abbrev behind : ℕ → List Flip → ℕ
 behind least flips = fold (λ n flip. at flip + 1) least flips
 
 -- what is said where the next line may stand from a place on
-pub record IsDraft (next : ℕ) (d : Draft) : Type 0 where
+pub record IsDraft (next : ℕ) (d : NoiseDraft) : Type 0 where
   pub size : d.size ≡ length (fcs_stream d.frames)
   pub idles : 8 ≤ d.size
   pub frames : All IsFrame d.frames
@@ -59,7 +59,7 @@ length-more frames frame =
       sizes-more frames frame,
     )
 
-frame-more : (next : ℕ) (d : Draft) (frame : List ℕ) → IsDraft next d → next ≡ 0 → IsFrame frame
+frame-more : (next : ℕ) (d : NoiseDraft) (frame : List ℕ) → IsDraft next d → next ≡ 0 → IsFrame frame
     → IsDraft 0 (with_frame d frame)
 frame-more next d frame is first fits = record {
   size = ap (λ n. n + (length frame + 12)) is.size ∙ sym (length-more d.frames frame);
@@ -81,7 +81,7 @@ rising-more least [] flip rising less = (less, tt)
 rising-more least (first ∷ flips) flip rising less =
     (rising.0, rising-more (at first + 1) flips flip rising.1 less)
 
-flip-more : (next : ℕ) (d : Draft) (flip : Flip) → IsDraft next d → LiesIn d.size flip → d.least ≤ at flip
+flip-more : (next : ℕ) (d : NoiseDraft) (flip : Flip) → IsDraft next d → LiesIn d.size flip → d.least ≤ at flip
     → IsDraft 1 (with_flip d flip)
 flip-more next d flip is lies late = record {
   size = is.size;
@@ -108,7 +108,7 @@ draft-first = record {
   none = λ e. refl;
 }
 
-draft-after : (next : ℕ) (d : Draft) (k : Keyword) (ws : List (List ℕ)) → IsDraft next d → IsPlaced 0 next (place k)
+draft-after : (next : ℕ) (d : NoiseDraft) (k : NoiseKeyword) (ws : List (List ℕ)) → IsDraft next d → IsPlaced 0 next (place k)
     → IsSound noise_table d k ws → IsDraft (next_by noise_table k) (after d k ws)
 draft-after next d word.Frame ws is at fine =
     let frame = digits_ok 2 64 9600 (word_at 0 ws) (one_field (digits 64 9600) 2 ws fine.count fine.each) in
@@ -132,7 +132,7 @@ pub noise-keeps : Keeps noise_table IsDraft
 noise-keeps = record { first = draft-first; after = draft-after }
 
 -- ---- What a text says is frames and flips that can be sent.
-whole_noise : (next : ℕ) (d : Draft) → IsDraft next d → IsNoise (noise_in d)
+whole_noise : (next : ℕ) (d : NoiseDraft) → IsDraft next d → IsNoise (noise_in d)
 whole_noise next d is = record {
   frames = is.frames;
   flips = subst (λ (n : ℕ). All (LiesIn n) d.flips) is.size is.flips;

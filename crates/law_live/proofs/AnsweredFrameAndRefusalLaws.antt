@@ -7,8 +7,8 @@ use Rattle.std.proofs.lemmas.Bool.{cases_Bool, ltb-true, ltb-false}
 use Rattle.std.proofs.lemmas.Grind.{flat_map-append}
 use Rattle.std.proofs.lemmas.List.{append-nil, length-map}
 use Rattle.law_model.proofs.ListLaws.{range-more}
-use Rattle.law_model.specs.Common.{Counts, Due, Leg, Plan, command_due, command_dues, due_of, dues_of, frame_due}
-use Rattle.law_model.specs.Common.{frame_dues, land_due, steps_in}
+use Rattle.law_model.specs.Common.{Counts, Due, Leg, Plan, Step, command_dues, due_of, dues_of, frame_dues, step}
+use Rattle.law_model.specs.Common.{steps_in}
 use Rattle.law_model.specs.declared.item_refusals.Refusal.{Refusal}
 use Rattle.law_model.specs.declared.script_types.Item.{Item}
 use Rattle.law_model.specs.declared.script_types.ItemKind.{ItemKind}
@@ -23,8 +23,11 @@ use Rattle.law_live.specs.Common.{items_refused, lands, live_after, live_round, 
 use Rattle.law_live.specs.Common.{step_made, live_from, refused_answer, round_answers, rounds_answers, rounds_for}
 use Rattle.law_live.specs.Common.{steps_between, steps_made, times_told}
 use Rattle.law_walk.specs.DeliveredFrames.{delivered_since}
+use Rattle.law_live.specs.LiveCounts.{landing_of}
 use Rattle.law_live.specs.LiveAnswers.{got_of, refusal_of, step_of, time_of}
 use Rattle.law_live.proofs.LiveRoundAndLandingLaws.{goes-round}
+pub use Rattle.law_progress.proofs.RoundProgressAndDrainLaws.{kinds as dues-size}
+use Rattle.law_progress.proofs.EventOutcomeLaws.{land-gives}
 use Rattle.law_live.proofs.ConversationCountAndScriptLaws.{Stands, fits-after, later-all, stands-after}
 
 -- What the answers tell is what a walk reports: the frames in order, the refused items in order, and the ticks that are
@@ -106,16 +109,20 @@ got-rounds (suc n) leg s =
     ∙ ap (λ l. l ++ frames_got (rounds_answers n leg next)) (grown leg s.rows next.rows up)
     ∙ got-rounds n leg next
 
-land-rows : (ticks : ℕ) (o : Option ℕ) (s next : Counts) → next.rows ≡ s.rows →
-    (land_due ticks o s next).counts.rows ≡ s.rows
-land-rows ticks None s next same = refl
-land-rows ticks (Some due) s next same =
-    elim (cases_Bool (nat_lt ticks due)) [ inl e ↦ rw e refl | inr e ↦ rw e same ]
+-- an item changes neither rows nor ticks
+abbrev IsBeside : Counts → Step → Type 0
+IsBeside s next = (next.counts.rows ≡ s.rows) × (next.counts.ticks ≡ s.ticks)
 
-lands-rows : (plan : Plan) (s : Counts) (kind : ItemKind) → (counts_said plan s (lands kind)).rows ≡ s.rows
-lands-rows plan s (Frame octets) = land-rows s.ticks _ s (record s { frames = s.frames + 1 }) refl
-lands-rows plan s (Add line) = land-rows s.ticks _ s (record s { commands = s.commands + 1 }) refl
-lands-rows plan s (Remove line) = land-rows s.ticks _ s (record s { commands = s.commands + 1 }) refl
+lands-beside : (plan : Plan) (s : Counts) (kind : ItemKind) → IsBeside s (step plan s (landing_of kind))
+lands-beside plan s (Frame octets) = land-gives (IsBeside s) s (record s { frames = s.frames + 1 }) _
+    (λ cause. (refl, refl)) (λ due is now. (refl, refl))
+lands-beside plan s (Add line) = land-gives (IsBeside s) s (record s { commands = s.commands + 1 }) _
+    (λ cause. (refl, refl)) (λ due is now. (refl, refl))
+lands-beside plan s (Remove line) = land-gives (IsBeside s) s (record s { commands = s.commands + 1 }) _
+    (λ cause. (refl, refl)) (λ due is now. (refl, refl))
+
+pub lands-ticks : (plan : Plan) (s : Counts) (kind : ItemKind) → (counts_said plan s (lands kind)).ticks ≡ s.ticks
+lands-ticks plan s kind = (lands-beside plan s kind).1
 
 got-to : (leg : Leg) (s : Counts) (saying : Saying) →
     delivered_of leg s.rows ++ frames_got (answers_to leg s saying)
@@ -124,7 +131,7 @@ got-to leg s (lands kind) =
     ap (λ l. delivered_of leg s.rows ++ l)
     (got-refused (s.frames + s.commands) (refusal_at leg (next_item s kind)))
     ∙ append-nil (delivered_of leg s.rows)
-    ∙ ap (delivered_of leg) (sym (lands-rows (walk_plan leg) s kind))
+    ∙ ap (delivered_of leg) (sym (lands-beside (walk_plan leg) s kind).0)
 got-to leg s (cuts m) = append-nil (delivered_of leg s.rows)
 got-to leg s (mends m) = append-nil (delivered_of leg s.rows)
 got-to leg s (passes k) =
@@ -172,12 +179,6 @@ numbered-push i (x ∷ xs) y =
     let e : suc i + length xs ≡ i + suc (length xs) = omega arith in
     ap (λ l. record { number = i; item = x } ∷ l)
     (numbered-push (suc i) xs y ∙ ap (λ n. numbered (suc i) xs ++ record { number = n; item = y } ∷ []) e)
-
-pub dues-size : (items : List Due) → length (frame_dues items) + length (command_dues items) ≡ length items
-unfolding frame_dues command_dues
-dues-size [] = refl
-dues-size (frame_due due ∷ items) = let rest = dues-size items in omega (arith, rest)
-dues-size (command_due due ∷ items) = let rest = dues-size items in omega (arith, rest)
 
 pub refused-item : (leg : Leg) (live : Live) (s : Counts) (kind : ItemKind) → Stands live s →
     refusals_among leg (numbered 0 live.items) ++ items_refused (item_answers leg s kind)
@@ -275,17 +276,6 @@ times-rounds (suc n) leg s =
     (rises-append s.ticks next.ticks last (times_told (round_answers leg s next))
     (times_told (rounds_answers n leg next)) (times-round leg s next goes.ticks goes.most)
     (times-rounds n leg next))
-
-land-ticks : (ticks : ℕ) (o : Option ℕ) (s next : Counts) → next.ticks ≡ s.ticks →
-    (land_due ticks o s next).counts.ticks ≡ s.ticks
-land-ticks ticks None s next same = refl
-land-ticks ticks (Some due) s next same =
-    elim (cases_Bool (nat_lt ticks due)) [ inl e ↦ rw e refl | inr e ↦ rw e same ]
-
-pub lands-ticks : (plan : Plan) (s : Counts) (kind : ItemKind) → (counts_said plan s (lands kind)).ticks ≡ s.ticks
-lands-ticks plan s (Frame octets) = land-ticks s.ticks _ s (record s { frames = s.frames + 1 }) refl
-lands-ticks plan s (Add line) = land-ticks s.ticks _ s (record s { commands = s.commands + 1 }) refl
-lands-ticks plan s (Remove line) = land-ticks s.ticks _ s (record s { commands = s.commands + 1 }) refl
 
 none-rise : (from to : ℕ) (times : List ℕ) → times ≡ [] → from ≡ to → Rises from to times
 unfolding Rises

@@ -1,7 +1,7 @@
 -- What a round of a conversation with both ways does: at most one more tick of both, rows that are no fewer, and nothing
 -- lands; and how rounds make the ticks that pass.
 use Rattle.std.proofs.Common.{◌≡◌, ℕ, zero, suc, ◌+◌, ◌-◌, ◌<◌, ◌≤◌, nat_le, nat_lt, true, false, ◌&&◌, inl, inr, List, []}
-use Rattle.std.proofs.Common.{◌∷◌, ◌++◌, length, replicate, slice_get, Option, Some, None, refl, sym, ◌∙◌, ap, subst, arith}
+use Rattle.std.proofs.Common.{◌∷◌, ◌++◌, length, replicate, Option, Some, None, refl, sym, ◌∙◌, ap, subst, arith}
 use Rattle.std.proofs.lemmas.Bool.{cases_Bool, cases_lt, leb-true, leb-false, ltb-false}
 use Rattle.law_model.specs.Common.{Counts, Due, LineCounts, LinePath, Plan, carry, command_due, command_dues, frame_due}
 use Rattle.law_model.specs.Common.{frame_dues, pop_lines}
@@ -17,20 +17,12 @@ use Rattle.law_pair.specs.Common.{plan_on, take_one, take_said, tick_by, tick_ca
 use Rattle.law_pair.proofs.NextItemAndOneWayEventLaws.{AreInOrder, command-lands, frame-lands}
 use Rattle.law_pair.proofs.PairMeasureAndDrainLaws.{is-near, pair-round-less, pair-steps, pair_made, run-append}
 use Rattle.law_pair.proofs.PairMeasureAndDrainLaws.{walks-fits}
-use Rattle.law_pair.proofs.ReachedPairAndStallLaws.{goes-near}
+use Rattle.law_pair.proofs.ReachedPairAndStallLaws.{goes-near, same-way}
 use Rattle.law_live.specs.Common.{after_turns, pair_turn, turn_both, turns_until}
-use Rattle.law_live.proofs.LiveRoundAndLandingLaws.{Goes, Here, Settled, goes-carry, then-goes}
+use Rattle.law_live.proofs.LiveRoundAndLandingLaws.{Goes, Here, Settled, goes-carry, goes-rest, goes-ticked, stays, then-goes}
+use Rattle.law_model.specs.session.Scenario.{packets_in}
 
 -- ---- What a round does: at most one more tick of both ways, rows that are no fewer, and nothing lands.
-stays : (more : ℕ) (s : Counts) → Goes more s s
-stays more s = record {
-  frames = refl;
-  commands = refl;
-  ticks = omega arith;
-  most = omega arith;
-  rows = omega arith;
-}
-
 pub record BothGo (more : ℕ) (was now : PairCounts) : Type 0 where
   pub there : Goes more was.there now.there
   pub back : Goes more was.back now.back
@@ -74,10 +66,8 @@ quiet-behind there back =
     (quiet-append (carries_on Back 0 back) (Take There ∷ Take Back ∷ []) (quiet-carries Back 0 back) (tt, (tt, tt)))
 
 goes-said : (s : Counts) (lines : List LineCounts) (waiting : Option ℕ) → Goes 0 s (take_said s lines waiting).counts
-goes-said s lines (Some line) =
-    record { frames = refl; commands = refl; ticks = omega arith; most = omega arith; rows = omega arith }
-goes-said s lines None =
-    record { frames = refl; commands = refl; ticks = omega arith; most = omega arith; rows = omega arith }
+goes-said s lines (Some line) = goes-rest 0 s lines s.rows s.backs (omega arith)
+goes-said s lines None = goes-rest 0 s lines (s.rows + 1) (packets_in (s.rows + 1)) (omega arith)
 
 goes-one : (plan : Plan) (s : Counts) → Goes 0 s (take_one plan s).counts
 goes-one plan s =
@@ -99,8 +89,7 @@ quiet-goes pair s (Item way) quiet = absurd quiet
 quiet-goes pair s Tick quiet = absurd quiet
 quiet-goes pair s (Carry way m) quiet =
     way-goes way s (carry (plan_on pair way) (counts_on s way) m).counts
-    (goes-carry (plan_on pair way) (counts_on s way) m (slice_get (plan_on pair way).paths m)
-    (slice_get (counts_on s way).lines m))
+    (goes-carry (plan_on pair way) (counts_on s way) m)
 quiet-goes pair s (Take way) quiet =
     way-goes way s (take_one (plan_on pair way) (counts_on s way)).counts
     (goes-one (plan_on pair way) (counts_on s way))
@@ -119,10 +108,7 @@ run-goes pair s (event ∷ events) quiet =
 
 pub tick-goes : (found : Option (Way × StallCause)) (s : PairCounts) → BothGo 1 s (tick_by found s).counts
 tick-goes (Some cause) s = both-stay 1 s
-tick-goes None s = record {
-  there = record { frames = refl; commands = refl; ticks = omega arith; most = omega arith; rows = omega arith };
-  back = record { frames = refl; commands = refl; ticks = omega arith; most = omega arith; rows = omega arith };
-}
+tick-goes None s = record { there = goes-ticked s.there; back = goes-ticked s.back }
 
 pub turn-goes : (pair : PairPlan) (s : PairCounts) → BothGo 1 s (turn_both pair s)
 unfolding pair_run
@@ -226,17 +212,13 @@ module _ (pair : PairPlan) (is : IsPairPlan pair) where
   order There = (is.there_plan.is.frames, is.there_plan.is.commands)
   order Back = (is.back_plan.is.frames, is.back_plan.is.commands)
 
-  same-way : (way : Way) (s : PairCounts) (next : Counts) → next ≡ counts_on s way → with_counts way next s ≡ s
-  same-way There s next same = ap (λ c. with_counts There c s) same
-  same-way Back s next same = ap (λ c. with_counts Back c s) same
-
   items-stall : (k : ℕ) (way : Way) (from until : ℕ) (s : PairCounts) → BothSettled pair from until s →
       (counts_on s way).ticks < until → pair_run pair s (replicate k (Item way)) ≡ s
   unfolding pair_run
   items-stall zero way from until s settled left = refl
   items-stall (suc k) way from until s settled left =
       ap (λ c. pair_run pair c (replicate k (Item way)))
-      (same-way way s (land_item (plan_on pair way) (counts_on s way)).counts
+      (same-way s way (land_item (plan_on pair way) (counts_on s way)).counts
       (item-stalls (plan_on pair way) from until (counts_on s way) (order way)
       (settled-on way pair from until s settled) left))
       ∙ items-stall k way from until s settled left

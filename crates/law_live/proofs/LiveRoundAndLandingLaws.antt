@@ -1,20 +1,18 @@
 -- What a round of a conversation does, how tries land all that is due, and how rounds make the ticks that pass.
-use Rattle.std.proofs.Common.{◌≡◌, ℕ, zero, suc, ◌+◌, ◌≤◌, nat_le, nat_lt, ◌&&◌, inl, inr, List, [], ◌∷◌, Option, Some}
-use Rattle.std.proofs.Common.{None, refl, ◌∙◌, arith, slice_get, ◌<◌, true, false, ◌++◌, length, replicate, ap, subst}
-use Rattle.std.proofs.Common.{◌-◌, sym}
-use Rattle.std.proofs.lemmas.Bool.{cases_Bool, cases_lt, leb-true, leb-false}
-use Rattle.law_model.specs.Common.{Counts, LineCounts, LinePath, Plan, carries_from, carry_at, carry_on, full, held}
-use Rattle.law_model.specs.Common.{in_receive, in_return, in_send, is_back_full, is_missing, pop_lines, run, step}
-use Rattle.law_model.specs.Common.{take_popped, take_row, tick, tick_full, tick_held, Due, command_due, command_dues}
-use Rattle.law_model.specs.Common.{frame_due, frame_dues, land_due, round, bound}
+use Rattle.std.proofs.Common.{◌≡◌, ℕ, zero, suc, ◌+◌, ◌≤◌, nat_le, inl, inr, List, [], ◌∷◌, Option, Some, None, refl}
+use Rattle.std.proofs.Common.{◌∙◌, arith, slice_get, ◌<◌, true, false, ◌++◌, length, replicate, ap, subst, ◌-◌, sym, lt-ltb}
+use Rattle.std.proofs.Common.{le-ltb}
+use Rattle.std.proofs.lemmas.Bool.{cases_Bool, cases_lt, leb-true, leb-false, lt-leb}
+use Rattle.law_model.specs.Common.{Counts, LineCounts, LinePath, Plan, carries_from, carry, held, run, step, take_row, tick}
+use Rattle.law_model.specs.Common.{Due, command_due, command_dues, frame_due, frame_dues, land_due, round, bound}
 use Rattle.law_model.specs.session.Counts.{back}
 use Rattle.law_model.specs.declared.walk_events.Event.TheVariants.{Back, Carry, Take, Tick, Accept, Command}
 use Rattle.law_live.specs.Common.{after_rounds, live_round, rounds_until}
 use Rattle.law_model.proofs.ListLaws.{slice_get-inside}
 use Rattle.law_model.specs.declared.walk_events.Event.{Event}
-use Rattle.law_progress.proofs.RoundProgressAndDrainLaws.{run-append}
 use Rattle.law_progress.specs.Progress.{Fits, IsPlanOf, made}
-use Rattle.law_progress.proofs.RoundProgressAndDrainLaws.{bounded, round-rises, rows-ticks, run-fits}
+use Rattle.law_progress.proofs.EventOutcomeLaws.{back-gives, carry-gives, take-gives, tick-gives}
+use Rattle.law_progress.proofs.RoundProgressAndDrainLaws.{bounded, kinds, round-rises, rows-ticks, run-append, run-fits}
 
 -- ---- What a round of a conversation does: at most one more tick, rows that are no fewer, and nothing lands.
 -- nothing lands, there are at most so many ticks more, and no fewer rows
@@ -25,14 +23,16 @@ pub record Goes (more : ℕ) (was now : Counts) : Type 0 where
   pub most : now.ticks ≤ was.ticks + more
   pub rows : was.rows ≤ now.rows
 
-stays : (more : ℕ) (s : Counts) → Goes more s s
-stays more s = record {
-  frames = refl;
-  commands = refl;
-  ticks = omega arith;
-  most = omega arith;
-  rows = omega arith;
-}
+pub goes-rest : (more : ℕ) (s : Counts) (lines : List LineCounts) (rows backs : ℕ) → s.rows ≤ rows →
+    Goes more s (record s { lines = lines; rows = rows; backs = backs })
+goes-rest more s lines rows backs up =
+    record { frames = refl; commands = refl; ticks = omega arith; most = omega arith; rows = up }
+
+pub stays : (more : ℕ) (s : Counts) → Goes more s s
+stays more s = goes-rest more s s.lines s.rows s.backs (omega arith)
+
+pub goes-ticked : (s : Counts) → Goes 1 s (record s { ticks = s.ticks + 1 })
+goes-ticked s = record { frames = refl; commands = refl; ticks = omega arith; most = omega arith; rows = omega arith }
 
 pub then-goes : (one other : ℕ) (a b c : Counts) → Goes one a b → Goes other b c → Goes (one + other) a c
 then-goes one other a b c first second =
@@ -47,94 +47,21 @@ then-goes one other a b c first second =
     }
 
 -- ---- events
-goes-lines : (s : Counts) (lines : List LineCounts) → Goes 0 s (record s { lines = lines })
-goes-lines s lines = record {
-  frames = refl;
-  commands = refl;
-  ticks = omega arith;
-  most = omega arith;
-  rows = omega arith;
-}
-
-goes-on : (plan : Plan) (s : Counts) (m : ℕ) (path : LinePath) (line : LineCounts) →
-    Goes 0 s (carry_on plan s m path line).counts
-goes-on plan s m path line =
-    elim (cases_Bool (nat_lt (plan.ticks + path.delay) line.carried)) [
-      | inl e ↦ rw e (stays 0 s)
-      | inr e ↦ rw e (elim (cases_Bool (nat_lt line.carried plan.ticks && nat_le (in_send plan.ticks s.ticks line) 0)) [
-        | inl f ↦ rw f (stays 0 s)
-        | inr f ↦ rw f (elim (cases_Bool (nat_le plan.ring (in_receive path line))) [
-          | inl g ↦ rw g (stays 0 s)
-          | inr g ↦ rw g (goes-lines s _)
-        ])
-      ])
-    ]
-
-pub goes-carry : (plan : Plan) (s : Counts) (m : ℕ) (path : Option LinePath) (line : Option LineCounts) →
-    Goes 0 s (carry_at plan s m path line).counts
-goes-carry plan s m (Some path) (Some line) = goes-on plan s m path line
-goes-carry plan s m (Some path) None = stays 0 s
-goes-carry plan s m None line = stays 0 s
+pub goes-carry : (plan : Plan) (s : Counts) (m : ℕ) → Goes 0 s (carry plan s m).counts
+goes-carry plan s m = carry-gives (λ next. Goes 0 s next.counts) plan s m (λ cause. stays 0 s)
+    (λ line. goes-rest 0 s _ s.rows s.backs (omega arith))
 
 pub goes-back : (plan : Plan) (s : Counts) → Goes 0 s (back s).counts
-goes-back plan s =
-    elim (cases_Bool (nat_le (in_return s) 0)) [
-      | inl e ↦ rw e (stays 0 s)
-      | inr e ↦ rw e (record {
-        frames = refl;
-        commands = refl;
-        ticks = omega arith;
-        most = omega arith;
-        rows = omega arith;
-      })
-    ]
-
-goes-popped : (s : Counts) (lines : List LineCounts) (waiting : Option ℕ) →
-    Goes 0 s (take_popped s lines waiting).counts
-goes-popped s lines (Some line) = goes-lines s lines
-goes-popped s lines None = record {
-  frames = refl;
-  commands = refl;
-  ticks = omega arith;
-  most = omega arith;
-  rows = omega arith;
-}
+goes-back plan s = back-gives (λ next. Goes 0 s next.counts) plan s (λ cause. stays 0 s)
+    (goes-rest 0 s s.lines s.rows (s.backs + 1) (omega arith))
 
 goes-take : (plan : Plan) (s : Counts) → Goes 0 s (take_row plan s).counts
-goes-take plan s =
-    elim (cases_Bool (nat_le plan.ticks s.rows)) [
-      | inl e ↦ rw e (stays 0 s)
-      | inr e ↦ rw e (elim (cases_Bool (is_back_full s)) [
-        | inl f ↦ rw f (stays 0 s)
-        | inr f ↦ rw f (goes-popped s (pop_lines s.rows 0 plan.paths s.lines).lines
-            (pop_lines s.rows 0 plan.paths s.lines).waiting)
-      ])
-    ]
-
-goes-full : (plan : Plan) (line : Option ℕ) (s : Counts) → Goes 1 s (tick_full line plan s).counts
-goes-full plan (Some line) s = stays 1 s
-goes-full plan None s =
-    elim (cases_Bool (is_missing plan s)) [
-      | inl e ↦ rw e (stays 1 s)
-      | inr e ↦ rw e (record {
-        frames = refl;
-        commands = refl;
-        ticks = omega arith;
-        most = omega arith;
-        rows = omega arith;
-      })
-    ]
-
-goes-held : (plan : Plan) (item : Option ℕ) (s : Counts) → Goes 1 s (tick_held item plan s).counts
-goes-held plan (Some item) s = stays 1 s
-goes-held plan None s = goes-full plan (full plan.ticks s.ticks 0 s.lines) s
+goes-take plan s = take-gives (λ next. Goes 0 s next.counts) plan s (λ cause. stays 0 s)
+    (λ line. goes-rest 0 s _ s.rows s.backs (omega arith)) (goes-rest 0 s _ (s.rows + 1) s.backs (omega arith))
 
 pub goes-tick : (plan : Plan) (s : Counts) → Goes 1 s (tick plan s).counts
 goes-tick plan s =
-    elim (cases_Bool (nat_le plan.ticks s.ticks)) [
-      | inl e ↦ rw e (stays 1 s)
-      | inr e ↦ rw e (goes-held plan (held s.ticks s.frames s.commands 0 plan.items) s)
-    ]
+    tick-gives (λ next. Goes 1 s next.counts) plan s (λ cause. stays 1 s) (λ none. goes-ticked s)
 
 -- ---- a round
 pub goes-carries : (plan : Plan) (m : ℕ) (paths : List LinePath) (s : Counts) →
@@ -146,7 +73,7 @@ goes-carries plan m [] s =
 goes-carries plan m (path ∷ paths) s =
     let next : Counts = (step plan s (Carry m)).counts in
     then-goes 0 0 s next (run plan next (carries_from (suc m) paths))
-    (goes-carry plan s m (slice_get plan.paths m) (slice_get s.lines m)) (goes-carries plan (suc m) paths next)
+    (goes-carry plan s m) (goes-carries plan (suc m) paths next)
 
 pub goes-round : (plan : Plan) (s : Counts) → Goes 1 s (live_round plan s)
 unfolding run
@@ -205,15 +132,7 @@ settled-at plan from until s settled low high = record {
 land-moves : (ticks : ℕ) (o : Option ℕ) (s next : Counts) (due : ℕ) → o ≡ Some due → due ≤ ticks →
     (land_due ticks o s next).counts ≡ next
 land-moves ticks o s next due there low =
-    let e : nat_lt ticks due ≡ false = grind (arith, low) in
-    ap (λ p. (land_due ticks p s next).counts) there ∙ rw e refl
-
-land-stalls : (ticks : ℕ) (o : Option ℕ) (s next : Counts) → ((due : ℕ) → o ≡ Some due → ticks < due) →
-    (land_due ticks o s next).counts ≡ s
-land-stalls ticks None s next late = refl
-land-stalls ticks (Some due) s next late =
-    let high : ticks < due = late due refl in
-    let e : nat_lt ticks due ≡ true = grind (arith, high) in rw e refl
+    ap (λ p. (land_due ticks p s next).counts) there ∙ rw (le-ltb ticks due low) refl
 
 pub accept-moves : (plan : Plan) (s : Counts) (due : ℕ) → slice_get (frame_dues plan.items) s.frames ≡ Some due →
     due ≤ s.ticks → (step plan s Accept).counts ≡ record s { frames = s.frames + 1 }
@@ -226,61 +145,50 @@ command-moves plan s due there low =
     land-moves s.ticks (slice_get (command_dues plan.items) s.commands) s (record s { commands = s.commands + 1 }) due
     there low
 
--- ---- many tries
+-- ---- many tries, of an event that lands the items of one kind: so many of them have
+module _ (plan : Plan) (event : Event) (dues : List ℕ) (ticks : ℕ) (put : ℕ → Counts)
+    (is : (a : ℕ) → (step plan (put a) event).counts
+    ≡ (land_due ticks (slice_get dues a) (put a) (put (a + 1))).counts)
+  where
+    tries : (k a count : ℕ) → a ≤ count → count ≤ a + k → Here dues ticks (suc ticks) count →
+        run plan (put a) (replicate k event) ≡ put count
+    unfolding run
+    tries zero a count low high here = ap put (let e : a ≡ count = omega (arith, low, high) in e)
+    tries (suc k) a count low high here = elim (cases_lt a count) [
+      | inl more ↦
+          let few = here.few in
+          let (due, there) = slice_get-inside dues a (omega (arith, few, more)) in
+          ap (λ c. run plan c (replicate k event))
+          (is a ∙ land-moves ticks (slice_get dues a) (put a) (put (a + 1)) due there (here.early a due more there))
+          ∙ tries k (a + 1) count (omega (arith, more)) (omega (arith, high)) here
+      | inr done ↦
+          ap (λ c. run plan c (replicate k event)) (is a ∙ stalls (slice_get dues a) (λ due. here.late a due done))
+          ∙ tries k a count low (omega (arith, done)) here
+    ]
+      where
+        stalls : (o : Option ℕ) → ((due : ℕ) → o ≡ Some due → suc ticks ≤ due) →
+            (land_due ticks o (put a) (put (a + 1))).counts ≡ put a
+        stalls None late = refl
+        stalls (Some due) late = rw (lt-ltb ticks due (late due refl)) refl
+
 pub accepts : (plan : Plan) (k : ℕ) (s : Counts) (count : ℕ) → s.frames ≤ count → count ≤ s.frames + k →
     Here (frame_dues plan.items) s.ticks (suc s.ticks) count →
     run plan s (replicate k Accept) ≡ record s { frames = count }
-unfolding run
-accepts plan zero s count low high here =
-    let e : s.frames ≡ count = omega (arith, low, high) in ap (λ n. record s { frames = n }) e
-accepts plan (suc k) s count low high here = elim (cases_lt s.frames count) [
-  | inl more ↦
-      let few = here.few in
-      let (due, there) = slice_get-inside (frame_dues plan.items) s.frames (omega (arith, few, more)) in
-      ap (λ c. run plan c (replicate k Accept))
-      (accept-moves plan s due there (here.early s.frames due more there))
-      ∙ accepts plan k (record s { frames = s.frames + 1 }) count (omega (arith, more)) (omega (arith, high)) here
-  | inr done ↦
-      let e : s.frames ≡ count = omega (arith, low, done) in
-      ap (λ c. run plan c (replicate k Accept))
-      (land-stalls s.ticks (slice_get (frame_dues plan.items) s.frames) s (record s { frames = s.frames + 1 })
-      (λ due there. here.late count due (omega arith) (subst (λ n. slice_get (frame_dues plan.items) n ≡ Some due) e there)))
-      ∙ accepts plan k s count low (omega (arith, done)) here
-]
+accepts plan k s count = tries plan Accept (frame_dues plan.items) s.ticks (λ n. record s { frames = n }) (λ a. refl) k
+    s.frames count
 
 pub commands : (plan : Plan) (k : ℕ) (s : Counts) (count : ℕ) → s.commands ≤ count → count ≤ s.commands + k →
     Here (command_dues plan.items) s.ticks (suc s.ticks) count →
     run plan s (replicate k Command) ≡ record s { commands = count }
-unfolding run
-commands plan zero s count low high here =
-    let e : s.commands ≡ count = omega (arith, low, high) in ap (λ n. record s { commands = n }) e
-commands plan (suc k) s count low high here = elim (cases_lt s.commands count) [
-  | inl more ↦
-      let few = here.few in
-      let (due, there) = slice_get-inside (command_dues plan.items) s.commands (omega (arith, few, more)) in
-      ap (λ c. run plan c (replicate k Command))
-      (command-moves plan s due there (here.early s.commands due more there))
-      ∙ commands plan k (record s { commands = s.commands + 1 }) count (omega (arith, more)) (omega (arith, high)) here
-  | inr done ↦
-      let e : s.commands ≡ count = omega (arith, low, done) in
-      ap (λ c. run plan c (replicate k Command))
-      (land-stalls s.ticks (slice_get (command_dues plan.items) s.commands) s (record s { commands = s.commands + 1 })
-      (λ due there. here.late count due (omega arith) (subst (λ n. slice_get (command_dues plan.items) n ≡ Some due) e there)))
-      ∙ commands plan k s count low (omega (arith, done)) here
-]
+commands plan k s count = tries plan Command (command_dues plan.items) s.ticks (λ n. record s { commands = n })
+    (λ a. refl) k s.commands count
 
 -- ---- a round of a script
 pub few-frames : (items : List Due) → length (frame_dues items) ≤ length items
-unfolding frame_dues
-few-frames [] = omega arith
-few-frames (frame_due due ∷ items) = let rest = few-frames items in omega (arith, rest)
-few-frames (command_due due ∷ items) = let rest = few-frames items in omega (arith, rest)
+few-frames items = let both = kinds items in omega (arith, both)
 
 pub few-commands : (items : List Due) → length (command_dues items) ≤ length items
-unfolding command_dues
-few-commands [] = omega arith
-few-commands (frame_due due ∷ items) = let rest = few-commands items in omega (arith, rest)
-few-commands (command_due due ∷ items) = let rest = few-commands items in omega (arith, rest)
+few-commands items = let both = kinds items in omega (arith, both)
 
 -- where fewer have landed it lands what is due, and then does as a round of a conversation does
 pub round-lands : (plan : Plan) (s : Counts) (a b : ℕ) → IsSettled plan s → a ≤ s.frames → b ≤ s.commands →
@@ -302,22 +210,20 @@ round-lands plan s a b settled frames_low commands_low =
     settled.commands)
 
 -- ---- nothing holds a tick
-none-held : (ticks a b i : ℕ) (items : List Due) →
+pub none-held : (ticks a b i : ℕ) (items : List Due) →
     ((k due : ℕ) → a ≤ k → slice_get (frame_dues items) k ≡ Some due → ticks < due) →
     ((k due : ℕ) → b ≤ k → slice_get (command_dues items) k ≡ Some due → ticks < due) →
     held ticks a b i items ≡ None
 unfolding held frame_dues command_dues
 none-held ticks a b i [] frames others = refl
 none-held ticks zero b i (frame_due due ∷ items) frames others =
-    let late = frames 0 due (omega arith) refl in
-    let e : nat_le due ticks ≡ false = grind (arith, late) in
-    rw e (none-held ticks zero b (suc i) items (λ k d low there. frames (suc k) d (omega arith) there) others)
+    rw (lt-leb due ticks (frames 0 due (omega arith) refl))
+    (none-held ticks zero b (suc i) items (λ k d low there. frames (suc k) d (omega arith) there) others)
 none-held ticks (suc a) b i (frame_due due ∷ items) frames others =
     none-held ticks a b (suc i) items (λ k d low there. frames (suc k) d (omega (arith, low)) there) others
 none-held ticks a zero i (command_due due ∷ items) frames others =
-    let late = others 0 due (omega arith) refl in
-    let e : nat_le due ticks ≡ false = grind (arith, late) in
-    rw e (none-held ticks a zero (suc i) items frames (λ k d low there. others (suc k) d (omega arith) there))
+    rw (lt-leb due ticks (others 0 due (omega arith) refl))
+    (none-held ticks a zero (suc i) items frames (λ k d low there. others (suc k) d (omega arith) there))
 none-held ticks a (suc b) i (command_due due ∷ items) frames others =
     none-held ticks a b (suc i) items frames (λ k d low there. others (suc k) d (omega (arith, low)) there)
 

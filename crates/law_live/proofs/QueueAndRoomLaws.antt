@@ -43,7 +43,7 @@ use Rattle.law_live.proofs.ConversationCountAndScriptLaws.{stands-begun}
 use Rattle.law_live.proofs.SamePastRoundAndAnswerLaws.{first-items}
 
 -- ---- no more than 256 wait
-abbrev Few : Stream → Type 0
+abbrev pub Few : Stream → Type 0
 Few stream = length stream.waiting ≤ most_waiting
 
 offered-few : (frame : List ℕ) (stream : Stream) → Few stream → Few (offered stream frame)
@@ -62,7 +62,7 @@ offered-few frame stream few =
           ] refl
     ]
 
-folded-few : (frames : List (List ℕ)) (stream : Stream) → Few stream → Few (fold offered stream frames)
+pub folded-few : (frames : List (List ℕ)) (stream : Stream) → Few stream → Few (fold offered stream frames)
 folded-few [] stream few = few
 folded-few (frame ∷ frames) stream few = folded-few frames (offered stream frame) (offered-few frame stream few)
 
@@ -81,7 +81,7 @@ reaching-few (suc steps) place stream few =
           (next-few stream.waiting stream.pieces few)
     ]
 
-stream-few : (scenario : Scenario) (cells : List (Option Told)) (t : ℕ) → Few (stream_before scenario cells t)
+pub stream-few : (scenario : Scenario) (cells : List (Option Told)) (t : ℕ) → Few (stream_before scenario cells t)
 unfolding stream_before
 stream-few scenario cells zero = omega arith
 stream-few scenario cells (suc t) =

@@ -163,7 +163,7 @@ module _ (plan : Plan) (items : List Due) (paths : List LinePath) (n : ℕ)
           ap (λ (made : Step). made.counts)
           (take-same (back s).counts (step-fits slow fast slip plan is s Back fits).0 (omega (arith, up, low)))
       rest-same m (path ∷ rest) s fits low =
-          let up = (goes-carry plan s m (slice_get plan.paths m) (slice_get s.lines m)).most in
+          let up = (goes-carry plan s m).most in
           rest-same (suc m) rest (step plan s (Carry m)).counts (step-fits slow fast slip plan is s (Carry m) fits).0
           (omega (arith, up, low))
           ∙ ap (λ (made : Step). run other made.counts (carries_from (suc m) rest)) (carry-same s m fits low)

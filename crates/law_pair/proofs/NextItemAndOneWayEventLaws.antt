@@ -6,10 +6,10 @@ use Rattle.std.specs.List.Sorted.{IsNonDecreasing}
 use Rattle.std.proofs.lemmas.Bool.{ltb-true, ltb-false, cases_Bool, cases_lt}
 use Rattle.std.proofs.lemmas.Option.{same_Some}
 use Rattle.law_model.proofs.ListLaws.{rest-in_order}
-use Rattle.law_model.specs.Common.{Due, frame_due, command_due, frame_dues, command_dues, LinePath, LineCounts, Plan}
-use Rattle.law_model.specs.Common.{Counts, Step, in_send, in_receive, in_return, moved, stalled, land_due, accept}
-use Rattle.law_model.specs.Common.{command, carry_on, carry_at, carry, pop_lines, take_popped, is_back_full, take_row}
-use Rattle.law_model.specs.Common.{run}
+use Rattle.law_model.specs.Common.{Due, frame_due, command_due, frame_dues, command_dues, LineCounts, Plan}
+use Rattle.law_model.specs.Common.{Counts, Step, in_return, moved, stalled, land_due, accept, command, carry, pop_lines}
+use Rattle.law_model.specs.Common.{take_popped, is_back_full, take_row, run}
+use Rattle.law_progress.proofs.EventOutcomeLaws.{carry-gives}
 use Rattle.law_progress.proofs.RoundProgressAndDrainLaws.{Lands, Leads, run-none}
 use Rattle.law_pair.specs.Common.{left_after, tick_of, sooner, first_due, landed, land_first, land_item, take_said}
 use Rattle.law_pair.specs.Common.{take_one}
@@ -286,27 +286,8 @@ module _ (plan : Plan) (s : Counts) where
   abbrev KeepsLines : Step → Type 0
   KeepsLines next = next.counts ≡ record s { lines = next.counts.lines }
 
-  carry-on : (m : ℕ) (path : LinePath) (line : LineCounts) → KeepsLines (carry_on plan s m path line)
-  carry-on m path line =
-      elim (cases_Bool (nat_lt (plan.ticks + path.delay) line.carried)) [
-        | inl e ↦ rw e refl
-        | inr e ↦ rw e (elim
-            (cases_Bool (nat_lt line.carried plan.ticks && nat_le (in_send plan.ticks s.ticks line) 0)) [
-              | inl f ↦ rw f refl
-              | inr f ↦ rw f (elim (cases_Bool (nat_le plan.ring (in_receive path line))) [
-                | inl g ↦ rw g refl
-                | inr g ↦ rw g refl
-              ])
-            ])
-      ]
-
-  carry-at : (m : ℕ) (path : Option LinePath) (line : Option LineCounts) → KeepsLines (carry_at plan s m path line)
-  carry-at m (Some path) (Some line) = carry-on m path line
-  carry-at m (Some path) None = refl
-  carry-at m None line = refl
-
   carry-keeps : (m : ℕ) → KeepsLines (carry plan s m)
-  carry-keeps m = carry-at m (slice_get plan.paths m) (slice_get s.lines m)
+  carry-keeps m = carry-gives KeepsLines plan s m (λ cause. refl) (λ line. refl)
 
   pub carry-leads : (m : ℕ) → HasSaid s → OneWay plan s (carry plan s m).counts
   unfolding run

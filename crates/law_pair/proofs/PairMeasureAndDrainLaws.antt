@@ -1,16 +1,17 @@
 -- Some event of each round of a pair moves and raises its measure, so that a drain of rounds ends within a bound.
-use Rattle.std.proofs.Common.{◌≡◌, ◌⊎◌, ℕ, zero, suc, ◌+◌, ◌<◌, inl, inr, List, [], ◌∷◌, ◌++◌, length, replicate}
+use Rattle.std.proofs.Common.{◌≡◌, ◌⊎◌, ℕ, zero, suc, ◌+◌, ◌<◌, inl, inr, List, [], ◌∷◌, ◌++◌, length, replicate, Contains}
 use Rattle.std.proofs.Common.{sum_by, Option, Some, None, option_map, refl, sym, ◌∙◌, ap, subst, arith, leb-false, ◌-◌}
 use Rattle.std.proofs.Common.{◌/◌, ◌%◌, ◌==◌, ◌*◌, ◌≤◌, nat_le, true, false, le-leb, eq-eqb, leb-true}
-use Rattle.law_model.specs.Common.{LinePath, Plan, Counts, LineCounts, carry, tick, step, used_in, Due, frame_due}
-use Rattle.law_model.specs.Common.{command_due, frame_dues, command_dues, sum_delays}
+use Rattle.law_model.specs.Common.{LinePath, Plan, Counts, LineCounts, carry, tick, step, used_in, sum_delays}
 use Rattle.law_model.specs.declared.walk_events.Event.{Event}
 use Rattle.law_model.specs.declared.walk_events.StallCause.{StallCause}
 use Rattle.law_progress.specs.Progress.{IsPlan, IsReached, LineFits, Fits, made, HasLine, cells_popped, IsProgress}
-use Rattle.law_progress.specs.Progress.{IsSound}
-use Rattle.law_progress.proofs.EventBoundAndStallCauseLaws.{each-map, carry-kept, take-kept, each-with, sum-bounded}
+use Rattle.law_progress.proofs.EventBoundAndStallCauseLaws.{each-map, carry-kept, take-kept}
+use Rattle.law_progress.proofs.RisingRoundsLaws.{Rounds, AreRising, round-less, drain-turn, drain-over}
 use Rattle.law_progress.proofs.StalledEventLaws.{is_progress}
 use Rattle.law_progress.proofs.RoundProgressAndDrainLaws.{rows-ticks, reached-fits, reached-moves, inbox-fits}
+use Rattle.law_progress.proofs.RoundProgressAndDrainLaws.{counts-bounded}
+pub use Rattle.law_progress.proofs.RoundProgressAndDrainLaws.{kinds}
 use Rattle.law_pair.specs.Common.{PairPlan, PairCounts, plan_on, counts_on, with_counts, land_item, take_one}
 use Rattle.law_pair.specs.Common.{tick_cause, tick_by, pair_step, carries_on, pair_round, with_lag, IsPairPlan}
 use Rattle.law_pair.specs.Common.{HasWayLine, IsPairProgress, IsOpen, pair_run, pair_begin, is_over, pair_drain}
@@ -23,9 +24,10 @@ use Rattle.law_pair.proofs.NextItemAndOneWayEventLaws.{way_made, HasSaid, OneWay
 use Rattle.law_pair.proofs.NextItemAndOneWayEventLaws.{accept-moves, command-moves, carry-leads, carry-more}
 use Rattle.law_pair.proofs.NextItemAndOneWayEventLaws.{take-leads, take-as, back-none}
 use Rattle.law_pair.proofs.ReachedPairAndStallLaws.{IsFree, tick-free, free-both, IsGoing, both-free, can-go-near}
-use Rattle.law_pair.proofs.ReachedPairAndStallLaws.{step-goes, run-goes, goes-near}
+use Rattle.law_pair.proofs.ReachedPairAndStallLaws.{step-goes, goes-near, same-way, own-counts}
 use Rattle.law_model.specs.session.Scenario.{packets_in}
 use Rattle.std.proofs.lemmas.Bool.{cases_Bool, and_parts}
+use Rattle.std.proofs.lemmas.List.Elements.{Contains-append_left, Contains-append_right}
 use Rattle.law_model.specs.declared.walk_events.Event.TheVariants as walk
 
 -- ---- Some event of a pair moves where rows are left.
@@ -59,86 +61,70 @@ take-grows plan s walks =
       | inr more ↦ inr ((take-as plan s walks.said).grows more.1)
     ]
 
--- ---- the events of a round
-unfoldable pub In : PairEvent → List PairEvent → Type 0
-In event [] = ⊥
-In event (first ∷ events) = (first ≡ event) ⊎ In event events
-
-in-right : (event : PairEvent) (xs ys : List PairEvent) → In event ys → In event (xs ++ ys)
-unfolding In
-in-right event [] ys h = h
-in-right event (x ∷ xs) ys h = inr (in-right event xs ys h)
-
-in-left : (event : PairEvent) (xs ys : List PairEvent) → In event xs → In event (xs ++ ys)
-unfolding In
-in-left event [] ys h = absurd h
-in-left event (x ∷ xs) ys (inl h) = inl h
-in-left event (x ∷ xs) ys (inr h) = inr (in-left event xs ys h)
-
-in-carries : (way : Way) (n m : ℕ) (paths : List LinePath) → m < length paths →
-    In (Carry way (n + m)) (carries_on way n paths)
-unfolding In carries_on
-in-carries way n m [] h = absurd (omega (arith, h))
-in-carries way n zero (path ∷ paths) h = inl (ap (Carry way) (let e : n ≡ n + 0 = omega arith in e))
-in-carries way n (suc m) (path ∷ paths) h =
-    inr (subst (λ k. In (Carry way k) (carries_on way (suc n) paths)) (let e : suc n + m ≡ n + suc m = omega arith in e)
-    (in-carries way (suc n) m paths (omega (arith, h))))
+-- ---- a round tries each event that names a line of its way
+carries-try : (way : Way) (n m : ℕ) (paths : List LinePath) → m < length paths →
+    Contains (carries_on way n paths) (Carry way (n + m))
+unfolding carries_on
+carries-try way n m [] h = absurd (omega (arith, h))
+carries-try way n zero (path ∷ paths) h = (0, omega arith, ap (Carry way) (let e : n ≡ n + 0 = omega arith in e))
+carries-try way n (suc m) (path ∷ paths) h =
+    let e : suc n + m ≡ n + suc m = omega arith in
+    Contains-append_right (Carry way n ∷ []) (carries_on way (suc n) paths) (Carry way (n + suc m))
+    (subst (λ k. Contains (carries_on way (suc n) paths) (Carry way k)) e
+    (carries-try way (suc n) m paths (omega (arith, h))))
 
 module _ (pair : PairPlan) where
-  abbrev last_takes : List PairEvent
-  last_takes = Take There ∷ Take Back ∷ []
+  abbrev items : Way → List PairEvent
+  items way = replicate (suc (length (plan_on pair way).items)) (Item way)
 
-  abbrev carries : List PairEvent
-  carries =
-      carries_on There 0 pair.there.paths ++ (carries_on Back 0 pair.back.paths ++ last_takes)
+  abbrev carries : Way → List PairEvent
+  carries way = carries_on way 0 (plan_on pair way).paths
 
-  in-end : (event : PairEvent) → In event (Tick ∷ carries) → In event (pair_round pair)
-  in-end event h =
-      in-right event (replicate (suc (length pair.there.items)) (Item There))
-      (replicate (suc (length pair.back.items)) (Item Back) ++ Tick ∷ carries)
-      (in-right event (replicate (suc (length pair.back.items)) (Item Back)) (Tick ∷ carries) h)
+  abbrev takes : List PairEvent
+  takes = Take There ∷ Take Back ∷ []
 
-  in-item : (way : Way) → In (Item way) (pair_round pair)
-  unfolding In
-  in-item There = inl refl
-  in-item Back =
-      in-right (Item Back) (replicate (suc (length pair.there.items)) (Item There))
-      (replicate (suc (length pair.back.items)) (Item Back) ++ Tick ∷ carries) (inl refl)
+  abbrev last : List PairEvent
+  last = Tick ∷ (carries There ++ (carries Back ++ takes))
 
-  in-tick : In Tick (pair_round pair)
-  unfolding In
-  in-tick = in-end Tick (inl refl)
+  in-last : (event : PairEvent) → Contains last event → Contains (pair_round pair) event
+  in-last event has =
+      Contains-append_right (items There) (items Back ++ last) event
+      (Contains-append_right (items Back) last event has)
 
-  in-carry : (way : Way) (m : ℕ) → m < length (plan_on pair way).paths → In (Carry way m) (pair_round pair)
-  unfolding In
-  in-carry There m h =
-      in-end (Carry There m) (inr (in-left (Carry There m) (carries_on There 0 pair.there.paths)
-      (carries_on Back 0 pair.back.paths ++ last_takes)
-      (subst (λ k. In (Carry There k) (carries_on There 0 pair.there.paths)) (let e : 0 + m ≡ m = omega arith in e)
-      (in-carries There 0 m pair.there.paths h))))
-  in-carry Back m h =
-      in-end (Carry Back m) (inr (in-right (Carry Back m) (carries_on There 0 pair.there.paths)
-      (carries_on Back 0 pair.back.paths ++ last_takes)
-      (in-left (Carry Back m) (carries_on Back 0 pair.back.paths) last_takes
-      (subst (λ k. In (Carry Back k) (carries_on Back 0 pair.back.paths)) (let e : 0 + m ≡ m = omega arith in e)
-      (in-carries Back 0 m pair.back.paths h)))))
+  behind-tick : (event : PairEvent) → Contains (carries There ++ (carries Back ++ takes)) event →
+      Contains (pair_round pair) event
+  behind-tick event has =
+      in-last event (Contains-append_right (Tick ∷ []) (carries There ++ (carries Back ++ takes)) event has)
 
-  in-take : (way : Way) → In (Take way) (pair_round pair)
-  unfolding In
-  in-take There =
-      in-end (Take There) (inr (in-right (Take There) (carries_on There 0 pair.there.paths)
-      (carries_on Back 0 pair.back.paths ++ last_takes)
-      (in-right (Take There) (carries_on Back 0 pair.back.paths) last_takes (inl refl))))
-  in-take Back =
-      in-end (Take Back) (inr (in-right (Take Back) (carries_on There 0 pair.there.paths)
-      (carries_on Back 0 pair.back.paths ++ last_takes)
-      (in-right (Take Back) (carries_on Back 0 pair.back.paths) last_takes (inr (inl refl)))))
+  behind-there : (event : PairEvent) → Contains (carries Back ++ takes) event → Contains (pair_round pair) event
+  behind-there event has =
+      behind-tick event (Contains-append_right (carries There) (carries Back ++ takes) event has)
 
--- ---- an event of a round that moves
+  in-carries : (way : Way) (m : ℕ) → m < length (plan_on pair way).paths → Contains (carries way) (Carry way m)
+  in-carries way m line =
+      subst (λ k. Contains (carries way) (Carry way k)) (let e : 0 + m ≡ m = omega arith in e)
+      (carries-try way 0 m (plan_on pair way).paths line)
+
+  round-tries : (event : PairEvent) → HasWayLine pair event → Contains (pair_round pair) event
+  round-tries (Item There) line = (0, omega arith, refl)
+  round-tries (Item Back) line =
+      Contains-append_right (items There) (items Back ++ last) (Item Back) (0, omega arith, refl)
+  round-tries Tick line = in-last Tick (0, omega arith, refl)
+  round-tries (Carry There m) line =
+      behind-tick (Carry There m)
+      (Contains-append_left (carries There) (carries Back ++ takes) (Carry There m) (in-carries There m line))
+  round-tries (Carry Back m) line =
+      behind-there (Carry Back m)
+      (Contains-append_left (carries Back) takes (Carry Back m) (in-carries Back m line))
+  round-tries (Take There) line =
+      behind-there (Take There) (Contains-append_right (carries Back) takes (Take There) (0, omega arith, refl))
+  round-tries (Take Back) line =
+      behind-there (Take Back) (Contains-append_right (carries Back) takes (Take Back) (1, omega arith, refl))
+
+-- ---- an event that moves
 pub record Found (pair : PairPlan) (s : PairCounts) : Type 0 where
   pub event : PairEvent
   pub line : HasWayLine pair event
-  pub tried : In event (pair_round pair)
   pub progress : IsPairProgress pair s event
   pub more : pair_made s < pair_made (pair_step pair s event).counts
 
@@ -150,10 +136,8 @@ module _ (pair : PairPlan) (s : PairCounts) where
 
   way-grows : (way : Way) (next : Counts) → next.ticks ≡ (counts_on s way).ticks →
       Grows (counts_on s way) next → PairGrows s (with_counts way next s)
-  way-grows There next ticks (inl same) = inl (ap (λ c. with_counts There c s) same)
-  way-grows There next ticks (inr more) = inr (way-more There next ticks more)
-  way-grows Back next ticks (inl same) = inl (ap (λ c. with_counts Back c s) same)
-  way-grows Back next ticks (inr more) = inr (way-more Back next ticks more)
+  way-grows way next ticks (inl same) = inl (same-way s way next same)
+  way-grows way next ticks (inr more) = inr (way-more way next ticks more)
 
   no-cause : (way : Way) (cause : Option StallCause) → cause ≡ None →
       option_map {U = Way × StallCause} (λ (found : StallCause). (way, found)) cause ≡ None
@@ -215,7 +199,6 @@ module _ (pair : PairPlan) (s : PairCounts) (near : IsNear pair s) where
   item-found way moves = record {
     event = Item way;
     line = tt;
-    tried = in-item pair way;
     progress = inl (no-cause pair s way (land_item (near_plan way) (counts_on s way)).cause moves.0);
     more = way-more pair s way (land_item (near_plan way) (counts_on s way)).counts (item-way way).ticks moves.1;
   }
@@ -226,7 +209,6 @@ module _ (pair : PairPlan) (s : PairCounts) (near : IsNear pair s) where
   carry-found way m inside moves more = record {
     event = Carry way m;
     line = inside;
-    tried = in-carry pair way m inside;
     progress = inl (no-cause pair s way (carry (near_plan way) (counts_on s way) m).cause moves);
     more = way-more pair s way (carry (near_plan way) (counts_on s way) m).counts (carry-way way m).ticks
         (carry-more (near_plan way) (counts_on s way) m more);
@@ -237,21 +219,15 @@ module _ (pair : PairPlan) (s : PairCounts) (near : IsNear pair s) where
   take-progress way (inl moves) =
       let as_ = take-as (near_plan way) (counts_on s way) (near-walks way).said in
       inl (no-cause pair s way (take_one (near_plan way) (counts_on s way)).cause (as_.cause ∙ moves))
-  take-progress There (inr (e, pops)) =
-      let as_ = take-as (near_plan There) s.there near.there.said in
+  take-progress way (inr (e, pops)) =
+      let as_ = take-as (near_plan way) (counts_on s way) (near-walks way).said in
       inr (
-        There,
+        way,
         refl,
-        subst (λ lines. cells_popped s.there < sum_by (λ (line : LineCounts). line.popped) lines)
-            (sym as_.lines) pops,
-      )
-  take-progress Back (inr (e, pops)) =
-      let as_ = take-as (near_plan Back) s.back near.back.said in
-      inr (
-        Back,
-        refl,
-        subst (λ lines. cells_popped s.back < sum_by (λ (line : LineCounts). line.popped) lines)
-            (sym as_.lines) pops,
+        subst (λ c. cells_popped (counts_on s way) < cells_popped c)
+            (sym (own-counts s way (take_one (near_plan way) (counts_on s way)).counts))
+            (subst (λ lines. cells_popped (counts_on s way) < sum_by (λ (line : LineCounts). line.popped) lines)
+            (sym as_.lines) pops),
       )
 
   take-found : (way : Way) → IsProgress (near_plan way) (counts_on s way) walk.Take →
@@ -259,7 +235,6 @@ module _ (pair : PairPlan) (s : PairCounts) (near : IsNear pair s) where
   take-found way progress more = record {
     event = Take way;
     line = tt;
-    tried = in-take pair way;
     progress = take-progress way progress;
     more = way-more pair s way (take_one (near_plan way) (counts_on s way)).counts (take-way way).ticks
         ((take-as (near_plan way) (counts_on s way) (near-walks way).said).grows more);
@@ -295,7 +270,7 @@ module _ (pair : PairPlan) (s : PairCounts) (near : IsNear pair s) where
       let found = reached-moves plan c walks.is walks.reached open_ in
       let beside = each-map (LineFits plan.ticks plan.ring c.ticks c.rows) (λ path line. Unit {0}) plan.paths c.lines
       (λ path line fits. tt) (walks-fits plan c walks).lines in
-      from-walk way found.0 found.1.1 (is_progress plan c found.0 beside found.2) found.2
+      from-walk way found.0 found.1 (is_progress plan c found.0 beside found.2) found.2
 
   near-free : (way : Way) → (tick (near_plan way) (counts_on s way)).cause ≡ None →
       IsFree (plan_on pair way) pair.lag (counts_on s way)
@@ -318,7 +293,6 @@ module _ (pair : PairPlan) (s : PairCounts) (near : IsNear pair s) where
       record {
         event = Tick;
         line = tt;
-        tried = in-tick pair;
         progress = inl (ap (λ cause. (tick_by cause s).cause) none);
         more = subst (λ cause. pair_made s < pair_made (tick_by cause s).counts) (sym none) (omega arith);
       }
@@ -344,45 +318,6 @@ module _ (pair : PairPlan) (s : PairCounts) (near : IsNear pair s) where
       both-found Back There (sym near.together) (sym ticks) (λ one other. tick-found other one) open_
 
 -- ---- Rounds of a pair end, within a bound.
--- ---- what is counted of a way is bounded
-pub kinds : (items : List Due) → length (frame_dues items) + length (command_dues items) ≡ length items
-unfolding frame_dues command_dues
-kinds [] = refl
-kinds (frame_due due ∷ items) = let rest = kinds items in omega (arith, rest)
-kinds (command_due due ∷ items) = let rest = kinds items in omega (arith, rest)
-
-abbrev most_of : Plan → ℕ
-most_of plan =
-    length plan.paths * (2 * plan.ticks) + sum_delays plan.paths + 2 * length plan.paths + length plan.items
-    + plan.ticks
-
-module _ (plan : Plan) (s : Counts) (walks : Walks plan s) where
-  abbrev At : LinePath → LineCounts → Type 0
-  At path line = IsSound plan.ticks walks.is.slow walks.is.fast walks.is.slip path
-      × LineFits plan.ticks plan.ring s.ticks s.rows path line
-
-  few : (path : LinePath) (line : LineCounts) → At path line → (line.carried ≤ plan.ticks + path.delay + 1)
-      × (line.popped ≤ plan.ticks + 1)
-  few path line at_ =
-      let left = at_.0.is_path.left line.carried 0 at_.1.carries (omega arith) in
-      let carries = at_.1.carries in
-      let pops = at_.1.pops in
-      (carries, omega (arith, left, carries, pops))
-
-  way-bounded : way_made s ≤ most_of plan
-  way-bounded =
-      let fits = walks-fits plan s walks in
-      let both = each-with (IsSound plan.ticks walks.is.slow walks.is.fast walks.is.slip)
-      (LineFits plan.ticks plan.ring s.ticks s.rows) plan.paths s.lines walks.is.is.paths fits.lines in
-      let sums = sum-bounded plan.ticks plan.paths s.lines (each-map At (λ path line.
-      (line.carried ≤ plan.ticks + path.delay + 1) × (line.popped ≤ plan.ticks + 1)) plan.paths s.lines
-      (λ path line at_. few path line at_) both) in
-      let frames = fits.frames in
-      let commands = fits.commands in
-      let rows = fits.rows in
-      let items = kinds plan.items in
-      omega (arith, sums, frames, commands, rows, items)
-
 module _ (pair : PairPlan) (is : IsPairPlan pair) where
   abbrev Going : PairCounts → Type 0
   Going s = IsGoing pair pair.lag pair.lag s
@@ -390,11 +325,23 @@ module _ (pair : PairPlan) (is : IsPairPlan pair) where
   near : (s : PairCounts) → Going s → IsNear pair s
   near s going = is-near pair s is going
 
+  way-fits : (way : Way) (s : PairCounts) → Going s → Fits (with_lag pair.lag (plan_on pair way)) (counts_on s way)
+  way-fits way s going =
+      walks-fits (with_lag pair.lag (plan_on pair way)) (counts_on s way) (near-walks pair s (near s going) way)
+
+  way-bounded : (way : Way) (s : PairCounts) → Going s → way_made (counts_on s way)
+      ≤ length (plan_on pair way).paths * (2 * (plan_on pair way).ticks) + sum_delays (plan_on pair way).paths
+      + 2 * length (plan_on pair way).paths + length (plan_on pair way).items + (plan_on pair way).ticks
+  way-bounded way s going =
+      let plan = (near-walks pair s (near s going) way).is in
+      counts-bounded plan.slow plan.fast plan.slip (with_lag pair.lag (plan_on pair way)) plan.is (counts_on s way)
+      (way-fits way s going)
+
   bounded : (s : PairCounts) → Going s → pair_made s ≤ pair_bound pair
   bounded s going =
-      let one = way-bounded (with_lag pair.lag pair.there) s.there (near s going).there in
-      let other = way-bounded (with_lag pair.lag pair.back) s.back (near s going).back in
-      let ticks = (walks-fits (with_lag pair.lag pair.there) s.there (near s going).there).ticks in
+      let one = way-bounded There s going in
+      let other = way-bounded Back s going in
+      let ticks = (way-fits There s going).ticks in
       let same = is.ticks in
       let a = length pair.there.paths in
       let b = length pair.back.paths in
@@ -402,52 +349,6 @@ module _ (pair : PairPlan) (is : IsPairPlan pair) where
       let product : (2 * (a + b) + 3) * pair.there.ticks
       ≡ a * (2 * pair.there.ticks) + b * (2 * pair.there.ticks) + 3 * pair.there.ticks = grind arith in
       omega (arith, one, other, ticks, same, across, product)
-
-  -- ---- a round
-  step-more : (s : PairCounts) (event : PairEvent) → Going s → pair_made s ≤ pair_made (pair_step pair s event).counts
-  step-more s event going = elim (step-grows pair s (near s going) event) [
-    | inl same ↦ let e = ap pair_made same in omega (arith, e)
-    | inr more ↦ omega (arith, more)
-  ]
-
-  next-goes : (s : PairCounts) (event : PairEvent) → Going s → Going (pair_step pair s event).counts
-  next-goes s event going = step-goes pair pair.lag pair.lag (can-go-near pair is) s event going
-
-  all-goes : (s : PairCounts) (events : List PairEvent) → Going s → Going (pair_run pair s events)
-  all-goes s events going = run-goes pair pair.lag pair.lag (can-go-near pair is) s events going
-
-  run-more : (s : PairCounts) (events : List PairEvent) → Going s → pair_made s ≤ pair_made (pair_run pair s events)
-  unfolding pair_run
-  run-more s [] going = omega arith
-  run-more s (event ∷ events) going =
-      let one = step-more s event going in
-      let rest = run-more (pair_step pair s event).counts events (next-goes s event going) in
-      omega (arith, one, rest)
-
-  run-rises : (s : PairCounts) (event : PairEvent) (events : List PairEvent) → Going s → In event events →
-      pair_made s < pair_made (pair_step pair s event).counts → pair_made s < pair_made (pair_run pair s events)
-  unfolding pair_run In
-  run-rises s event [] going here more = absurd here
-  run-rises s event (first ∷ events) going here more =
-      elim (step-grows pair s (near s going) first) [
-        | inr up ↦
-            let rest = run-more (pair_step pair s first).counts events (next-goes s first going) in
-            omega (arith, up, rest)
-        | inl same ↦ elim here [
-          | inl e ↦
-              let f : pair_made (pair_step pair s event).counts ≡ pair_made s =
-              subst (λ tried. pair_made (pair_step pair s tried).counts ≡ pair_made s) e (ap pair_made same) in
-              absurd (omega (arith, f, more))
-          | inr later ↦ subst (λ next. pair_made s < pair_made (pair_run pair next events)) (sym same)
-              (run-rises s event events going later more)
-        ]
-      ]
-
-  round-rises : (s : PairCounts) → Going s → IsOpen pair s →
-      pair_made s < pair_made (pair_run pair s (pair_round pair))
-  round-rises s going open_ =
-      let found = some-found pair s (near s going) is.ticks open_ in
-      run-rises s found.event (pair_round pair) going found.tried found.more
 
   -- ---- rounds
   not-over : (s : PairCounts) → is_over pair s ≡ false → IsOpen pair s
@@ -457,95 +358,50 @@ module _ (pair : PairPlan) (is : IsPairPlan pair) where
         | inl shut ↦ (Back, leb-false pair.back.ticks s.back.rows (rw shut at e))
       ]
 
-  drain-over : (k : ℕ) (s : PairCounts) → Going s → pair_bound pair ≤ pair_made s + k →
-      is_over pair (pair_drain k pair s) ≡ true
-  unfolding pair_drain
-  drain-over zero s going most =
-      elim (cases_Bool (is_over pair s)) [
-        | inl e ↦ e
-        | inr e ↦
-            let more = round-rises s going (not-over s e) in
-            let high = bounded (pair_run pair s (pair_round pair)) (all-goes s (pair_round pair) going) in
-            absurd (omega (arith, more, high, most))
-      ]
-  drain-over (suc k) s going most =
-      elim (cases_Bool (is_over pair s)) [
-        | inl e ↦ rw e e
-        | inr e ↦
-            let more = round-rises s going (not-over s e) in
-            rw e (drain-over k (pair_run pair s (pair_round pair)) (all-goes s (pair_round pair) going)
-            (omega (arith, more, most)))
-      ]
+  over-on : (s : PairCounts) (way : Way) → is_over pair s ≡ true → (plan_on pair way).ticks ≤ (counts_on s way).rows
+  over-on s There over = leb-true pair.there.ticks s.there.rows
+      (and_parts (nat_le pair.there.ticks s.there.rows) (nat_le pair.back.ticks s.back.rows) over).0
+  over-on s Back over = leb-true pair.back.ticks s.back.rows
+      (and_parts (nat_le pair.there.ticks s.there.rows) (nat_le pair.back.ticks s.back.rows) over).1
 
-  drain-goes : (k : ℕ) (s : PairCounts) → Going s → Going (pair_drain k pair s)
-  unfolding pair_drain
-  drain-goes zero s going = going
-  drain-goes (suc k) s going =
-      elim (cases_Bool (is_over pair s)) [
-        | inl e ↦ rw e going
-        | inr e ↦ rw e (drain-goes k (pair_run pair s (pair_round pair)) (all-goes s (pair_round pair) going))
-      ]
+  abbrev pair_rounds : Rounds PairCounts PairEvent
+  pair_rounds = record {
+    next = λ s event. (pair_step pair s event).counts;
+    run = pair_run pair;
+    round = pair_round pair;
+    over = is_over pair;
+    drain = λ k. pair_drain k pair;
+    made = pair_made;
+    most = pair_bound pair;
+  }
 
-  rows-all : (s : PairCounts) (way : Way) → Going s → is_over pair s ≡ true →
-      (counts_on s way).rows ≡ (plan_on pair way).ticks
-  rows-all s There going over =
-      let most = (walks-fits (with_lag pair.lag pair.there) s.there (near s going).there).rows in
-      let all = leb-true pair.there.ticks s.there.rows
-      ((and_parts (nat_le pair.there.ticks s.there.rows) (nat_le pair.back.ticks s.back.rows) over).0) in
-      omega (arith, most, all)
-  rows-all s Back going over =
-      let most = (walks-fits (with_lag pair.lag pair.back) s.back (near s going).back).rows in
-      let all = leb-true pair.back.ticks s.back.rows
-      ((and_parts (nat_le pair.there.ticks s.there.rows) (nat_le pair.back.ticks s.back.rows) over).1) in
-      omega (arith, most, all)
-
--- one more round than enough changes nothing
-module _ (pair : PairPlan) (is : IsPairPlan pair) where
-  abbrev turned : PairCounts → PairCounts
-  turned s = pair_run pair s (pair_round pair)
-
-  drain-again : (k : ℕ) (s : PairCounts) → IsGoing pair pair.lag pair.lag s → pair_bound pair ≤ pair_made s + k →
-      pair_drain (suc k) pair s ≡ pair_drain k pair s
-  unfolding pair_drain
-  drain-again zero s going most =
-      let shut : is_over pair s ≡ true = drain-over pair is zero s going most in
-      rw shut refl
-  drain-again (suc k) s going most =
-      elim (cases_Bool (is_over pair s)) [
-        | inl e ↦ rw e refl
-        | inr e ↦
-            let more = round-rises pair is s going (not-over pair is s e) in
-            let again = drain-again k (turned s) (all-goes pair is s (pair_round pair) going)
-            (omega (arith, more, most))
-            in
-            rw e again
-      ]
-
-  drain-turn : (most : ℕ) (s : PairCounts) → IsGoing pair pair.lag pair.lag s → is_over pair s ≡ false →
-      pair_bound pair ≡ most → pair_drain most pair (turned s) ≡ pair_drain most pair s
-  unfolding pair_drain
-  drain-turn zero s going open_ e =
-      let more = round-rises pair is s going (not-over pair is s open_) in
-      let high = bounded pair is (turned s) (all-goes pair is s (pair_round pair) going) in
-      absurd (omega (arith, more, high, e))
-  drain-turn (suc k) s going open_ e =
-      let more = round-rises pair is s going (not-over pair is s open_) in
-      drain-again k (turned s) (all-goes pair is s (pair_round pair) going) (omega (arith, more, e)) ∙ rw open_ refl
+  are-rising : AreRising pair_rounds Going
+  unfolding pair_run pair_drain
+  are-rising = record {
+    run_none = λ s. refl;
+    run_more = λ s event events. refl;
+    drain_none = λ s. refl;
+    drain_more = λ k s. refl;
+    keeps = λ s event going. elim (step-grows pair s (near s going) event) [
+      | inl same ↦ inl same
+      | inr more ↦ inr (step-goes pair pair.lag pair.lag (can-go-near pair is) s event going, more)
+    ];
+    few = bounded;
+    moves = λ s going open_.
+        let found = some-found pair s (near s going) is.ticks (not-over s open_) in
+        (found.event, round-tries pair found.event found.line, found.more);
+  }
 
   -- the measure of a loop over rounds falls
   pub pair-round-less : (s : PairCounts) → IsPairReached pair s → is_over pair s ≡ false →
-      pair_bound pair - pair_made (turned s) < pair_bound pair - pair_made s
-  pair-round-less s reached open_ =
-      let going = goes-near pair s is reached in
-      let more = round-rises pair is s going (not-over pair is s open_) in
-      let high = bounded pair is (turned s) (all-goes pair is s (pair_round pair) going) in
-      omega (arith, more, high)
+      pair_bound pair - pair_made (pair_run pair s (pair_round pair)) < pair_bound pair - pair_made s
+  pair-round-less s reached open_ = round-less pair_rounds Going are-rising s (goes-near pair s is reached) open_
 
 pub pair-turns : (pair : PairPlan) (s : PairCounts) → IsPairPlan pair → IsPairReached pair s →
     is_over pair s ≡ false →
     pair_drain (pair_bound pair) pair (pair_run pair s (pair_round pair)) ≡ pair_drain (pair_bound pair) pair s
 pair-turns pair s is reached open_ =
-    drain-turn pair is (pair_bound pair) s (goes-near pair s is reached) open_ refl
+    drain-turn (pair_rounds pair is) (Going pair is) (are-rising pair is) s (goes-near pair s is reached) open_
 
 pub pair-stops : (pair : PairPlan) (s : PairCounts) (k : ℕ) → is_over pair s ≡ true → pair_drain k pair s ≡ s
 unfolding pair_drain
@@ -555,9 +411,12 @@ pair-stops pair s (suc k) over = rw over refl
 pub pair-ends : (pair : PairPlan) (s : PairCounts) (way : Way) → IsPairPlan pair → IsPairReached pair s →
     (counts_on (pair_drain (pair_bound pair) pair s) way).rows ≡ (plan_on pair way).ticks
 pair-ends pair s way is reached =
-    let going = goes-near pair s is reached in
-    rows-all pair is (pair_drain (pair_bound pair) pair s) way (drain-goes pair is (pair_bound pair) s going)
-    (drain-over pair is (pair_bound pair) s going (omega arith))
+    let end : PairCounts = pair_drain (pair_bound pair) pair s in
+    let (going, over) = drain-over (pair_rounds pair is) (Going pair is) (are-rising pair is) (pair_bound pair) s
+    (goes-near pair s is reached) (omega arith) in
+    let most = (way-fits pair is way end going).rows in
+    let all = over-on pair is end way over in
+    omega (arith, most, all)
 
 pub pair-moves : (pair : PairPlan) (s : PairCounts) → IsPairPlan pair → IsPairReached pair s → IsOpen pair s →
     SomePairProgress pair s
@@ -609,10 +468,9 @@ waits-near plan s walks =
 
 pub pair-waits : (pair : PairPlan) (s : PairCounts) (way : Way) → IsPairPlan pair → IsPairReached pair s →
     packets_in (counts_on s way).rows - used_in pair.lag (counts_on s way).ticks ≤ pair.lag
-pair-waits pair s There is reached =
-    waits-near (with_lag pair.lag pair.there) s.there (is-near pair s is (goes-near pair s is reached)).there
-pair-waits pair s Back is reached =
-    waits-near (with_lag pair.lag pair.back) s.back (is-near pair s is (goes-near pair s is reached)).back
+pair-waits pair s way is reached =
+    waits-near (with_lag pair.lag (plan_on pair way)) (counts_on s way)
+    (near-walks pair s (is-near pair s is (goes-near pair s is reached)) way)
 
 -- ---- what a tick tells was said
 free-told : (plan : Plan) (lag : ℕ) (s : Counts) → IsFree plan lag s → s.ticks % 16 ≡ 8 → lag ≤ s.ticks / 16 →

@@ -13,11 +13,11 @@ use Rattle.law_model.specs.Common.{stream_before, payload_of, active_at, payload
 use Rattle.law_model.specs.Common.{is_silent_line, is_inferred, are_inferred, is_whole_row, rows_of, scenario_by}
 use Rattle.law_model.specs.Common.{IsSound, greatest, greatest_slip, scenario_of, forward_packet, oks_in}
 use Rattle.law_model.specs.Common.{told_by, untold, telling_at, mst_by, telling, sent_packet, session_cells, leader}
-use Rattle.law_model.specs.Common.{packet_if, packets_of, Leg, read_packets, return_at, Counts, packets, IsLine}
+use Rattle.law_model.specs.Common.{packet_if, packets_of, Leg, read_packets, return_at, Counts, packets}
 use Rattle.law_model.specs.Common.{deliver, longest_frame, most_packets}
 use Rattle.law_session.proofs.ClientStreamAndReplayLaws.{SameTables, width-same, place_of-same, stream_before-same}
 use Rattle.law_pair.specs.Common.{telling_of, IsWay, IsPair, is_unheard, way_of, way_telling, said_of, way_tells}
-use Rattle.law_pair.specs.Common.{way_config, PairCounts, pair_bound, with_lag, IsPairPlan, pair_plan, pair_drained}
+use Rattle.law_pair.specs.Common.{PairCounts, pair_bound, with_lag, IsPairPlan, pair_plan, pair_drained}
 use Rattle.law_pair.specs.Common.{IsPairWalked}
 use Rattle.law_model.specs.declared.script_types.Script.{Script}
 use Rattle.law_model.specs.session.Scenario.{packets_in}
@@ -27,16 +27,13 @@ use Rattle.law_model.specs.declared.control_packet.Packet.{Packet}
 use Rattle.law_model.proofs.PacketNibblesLaws.{bit_nibble-bit}
 use Rattle.law_row.proofs.ActivePacketsLaws.{heard-any}
 use Rattle.law_row.specs.Received.{HasPackets}
-use Rattle.law_terminal.proofs.ArrivedCellAndRowLaws.{has-packets, is-line}
-use Rattle.law_walk.specs.Common.{session_of, CanWalk, IsWalked, popped_cells, sent_on, sent_of, walk_plan}
+use Rattle.law_terminal.proofs.ArrivedCellAndRowLaws.{has-packets}
+use Rattle.law_walk.specs.Common.{session_of, CanWalk, IsWalked, popped_cells, walk_plan}
 use Rattle.law_walk.specs.Common.{delivered_of, landed_items, report_among, report_of, final_report}
-use Rattle.law_walk.proofs.WalkPlanAndPoppedCellLaws.{has-lines, sound-walks, cells-come, cells-decide, sent-by}
-use Rattle.law_walk.proofs.WalkPlanAndPoppedCellLaws.{own-at}
+use Rattle.law_walk.proofs.WalkPlanAndPoppedCellLaws.{has-lines, sound-walks, cells-come, cells-decide}
+use Rattle.law_walk.proofs.WalkPlanAndPoppedCellLaws.{plan-with}
 use Rattle.law_walk.proofs.AcceptedFrameAndDrainedWalkLaws.{counts-within, ticks-made, items-landed}
-use Rattle.law_model.specs.declared.script_types.Config.{Config}
 use Rattle.law_progress.specs.Progress.{IsPlan}
-use Rattle.law_progress.proofs.LinePathInNumbersLaws.{can_run-plan}
-use Rattle.law_terminal.proofs.ContainerPayloadLaws.{containers-size}
 use Rattle.law_pair.specs.declared.pair_events.Way.TheVariants.{There, Back}
 use Rattle.std.specs.Prelude.{filter, flat_map, fold, is_none}
 use Rattle.text_report.specs.ReportLines.{got_texts, refused_texts, total_text}
@@ -435,34 +432,10 @@ reads-told script other s k is walked made low =
     ∙ sym (way-cells script other (session_of leg) k made)
 
 -- ---- The plan of a pair of scripts, and what its ways deliver.
--- ---- what the lines of a way are sent
-abbrev near_config : Script → Script → Config
-near_config script other = record (way_config script other) { lag = script.config.lag }
-
 way-plan : (script other : Script) → IsWay script →
     IsPlan (with_lag script.config.lag (walk_plan (way_of script other)))
 way-plan script other is =
-    let leg = way_of script other in
-    let scenario : Scenario = scenario_by leg in
-    let can : CanWalk leg = sound-walks leg (way-sound script other is) in
-    let some = can.some in
-    let size = can.delays in
-    can_run-plan (near_config script other) script.items (sent_of scenario) (record {
-      some_line = omega arith;
-      sent_all = sent-by script.config.ticks (sent_on scenario) script.config.windows script.config.delays 0 can.delays
-          (λ m own here.
-          let (low, same) = own-at script.config.windows m own here in
-          let e : m ≡ 0 + m = omega arith in
-          subst (λ k. IsLine own (sent_on scenario k)) e
-          (subst (λ windows. IsLine windows (sent_on scenario m)) same
-          (is-line scenario (session_cells scenario) (has-lines leg can) m low)))
-          (λ m. containers-size scenario (session_cells scenario) m scenario.ticks);
-      frames = can.frames;
-      commands = can.commands;
-      some_room = can.some_room;
-      ring = can.ring;
-      lag = is.valid.sound.network.fits_lag;
-    })
+    plan-with (way_of script other) script.config.lag (can-walk script other is) is.valid.sound.network.fits_lag
 
 pub has-pair-plan : (there back : Script) → IsPair there back → IsPairPlan (pair_plan there back)
 has-pair-plan there back pair = record {

@@ -335,9 +335,13 @@ no-cause : (way : Way) (found : Option StallCause) (cause : Way × StallCause) �
 no-cause way None cause none e = cc
 no-cause way (Some found) cause none e = cc
 
-same-way : (s : PairCounts) (way : Way) (next : Counts) → next ≡ counts_on s way → with_counts way next s ≡ s
+pub same-way : (s : PairCounts) (way : Way) (next : Counts) → next ≡ counts_on s way → with_counts way next s ≡ s
 same-way s There next same = ap (λ c. with_counts There c s) same
 same-way s Back next same = ap (λ c. with_counts Back c s) same
+
+pub own-counts : (s : PairCounts) (way : Way) (next : Counts) → counts_on (with_counts way next s) way ≡ next
+own-counts s There next = refl
+own-counts s Back next = refl
 
 way-lines : (s : PairCounts) (way : Way) (next : Counts) → next ≡ with_lines next.lines (counts_on s way) →
     with_counts way next s

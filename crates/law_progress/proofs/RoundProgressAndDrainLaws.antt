@@ -1,19 +1,22 @@
 -- Some event of each round moves while rows are left, so a drain of rounds ends; and what events and drains reach.
-use Rattle.std.proofs.Common.{◌≡◌, ℕ, zero, suc, ◌+◌, ◌*◌, ◌<◌, ◌≤◌, nat_le, true, false, ◌⊎◌, inl, inr, List, [], ◌∷◌}
+use Rattle.std.proofs.Common.{◌≡◌, ℕ, zero, suc, ◌+◌, ◌*◌, ◌<◌, ◌≤◌, nat_le, ◌⊎◌, inl, inr, List, [], ◌∷◌}
 use Rattle.std.proofs.Common.{◌++◌, length, replicate, slice_get, Some, None, refl, sym, ◌∙◌, ap, subst, arith, ◌-◌}
-use Rattle.std.proofs.Common.{flat_map}
-use Rattle.std.proofs.lemmas.Bool.{leb-true, leb-false, cases_Bool, cases_lt}
+use Rattle.std.proofs.Common.{flat_map, Contains, le-leb}
+use Rattle.std.proofs.lemmas.Bool.{leb-true, leb-false, lt-leb, cases_Bool}
+use Rattle.std.proofs.lemmas.List.Elements.{Contains-append_right}
 use Rattle.std.specs.List.Sorted.{IsNonDecreasing}
 use Rattle.std.proofs.lemmas.Option.{slice_get_within, same_Some}
 use Rattle.law_model.proofs.ListLaws.{rest-in_order}
 use Rattle.law_model.specs.Common.{Due, frame_due, command_due, frame_dues, command_dues, bound, LinePath, LineCounts}
 use Rattle.law_model.specs.Common.{Plan, Counts, in_send, in_inbox, held, full, step, run, begin, carries_from, round}
-use Rattle.law_model.specs.Common.{drain, run_line, run_lines, walked}
+use Rattle.law_model.specs.Common.{drain, run_line, run_lines, walked, sum_delays}
 use Rattle.law_model.specs.declared.walk_events.Event.{Event}
 use Rattle.law_model.specs.declared.walk_events.Event.TheVariants.{Accept, Tick, Carry, Back, Take, Command}
 use Rattle.law_model.specs.session.Scenario.{packets_in}
 use Rattle.law_progress.specs.Progress.{IsSound, IsPlanOf, IsPlan, AllPaths, Each, LineFits, Fits, made, HasLine}
-use Rattle.law_progress.specs.Progress.{IsReached, SomeProgress}
+use Rattle.law_progress.specs.Progress.{IsReached, SomeProgress, sum_lines}
+use Rattle.law_progress.proofs.RisingRoundsLaws.{Rounds, AreRising, drain-over, drain-turn, run-good}
+use Rattle.law_progress.proofs.RisingRoundsLaws as rises
 use Rattle.law_progress.proofs.EventBoundAndStallCauseLaws.{each-map, each-with, each-at, each-some, sum-bounded, Kept}
 use Rattle.law_progress.proofs.EventBoundAndStallCauseLaws.{NotLanded, accept-kept, command-kept, back-kept, IsMissing}
 use Rattle.law_progress.proofs.EventBoundAndStallCauseLaws.{TickWhy, done, waits, fills, misses, tick-kept, CarryWhy}
@@ -24,44 +27,29 @@ use Rattle.law_progress.proofs.StalledEventLaws.{is_progress}
 use Rattle.law_progress.proofs.EventBoundAndStallCauseLaws as steps
 use Rattle.law_model.specs.declared.script_types.EventLine.TheVariants as script_line
 
+-- ---- the items of each kind
+pub kinds : (items : List Due) → length (frame_dues items) + length (command_dues items) ≡ length items
+unfolding frame_dues command_dues
+kinds [] = refl
+kinds (frame_due due ∷ items) = let rest = kinds items in omega (arith, rest)
+kinds (command_due due ∷ items) = let rest = kinds items in omega (arith, rest)
+
 -- ---- Some event moves, and rounds end.
 -- ---- each event keeps the bounds
-abbrev pub Either : Plan → Counts → Counts → Type 0
-Either plan s next = (next ≡ s) ⊎ (Fits plan next × (made s < made next))
-
-either : (plan : Plan) (s next : Counts) (Why : Type 0) → Kept plan s Why next → Either plan s next
-either plan s next Why kept = elim kept [ inl same ↦ inl same.0 | inr more ↦ inr more ]
+without_why : {Same Why More : Type 0} → (Same × Why) ⊎ More → Same ⊎ More
+without_why (inl same) = inl same.0
+without_why (inr more) = inr more
 
 module _ (slow fast slip : ℕ) (plan : Plan) (is : IsPlanOf slow fast slip plan) where
-  any-kept : (s : Counts) (event : Event) → Fits plan s → Either plan s (step plan s event).counts
-  any-kept s Accept fits = either plan s (step plan s Accept).counts
-      (NotLanded s.ticks (slice_get (frame_dues plan.items) s.frames)) (accept-kept plan s fits)
-  any-kept s Command fits = either plan s (step plan s Command).counts
-      (NotLanded s.ticks (slice_get (command_dues plan.items) s.commands)) (command-kept plan s fits)
-  any-kept s Tick fits = either plan s (step plan s Tick).counts (TickWhy plan s) (tick-kept plan s fits)
-  any-kept s (Carry m) fits = either plan s (step plan s (Carry m)).counts (NoCarry plan s m)
-      (carry-kept slow fast slip plan s is fits m)
-  any-kept s Back fits = either plan s (step plan s Back).counts (packets_in s.rows ≤ s.backs) (back-kept plan s fits)
-  any-kept s Take fits = either plan s (step plan s Take).counts (TakeWhy plan s)
-      (take-kept slow fast slip plan s is fits)
-
-  pub step-fits : (s : Counts) (event : Event) → Fits plan s → Fits plan (step plan s event).counts ×
-      (made s ≤ made (step plan s event).counts)
-  step-fits s event fits = elim (any-kept s event fits) [
-    | inl same ↦ (
-      subst (λ next. Fits plan next) (sym same) fits,
-      subst (λ next. made s ≤ made next) (sym same) (omega arith),
-    )
-    | inr (new, more) ↦ (new, omega (arith, more))
-  ]
-
-  pub run-fits : (s : Counts) (events : List Event) → Fits plan s → Fits plan (run plan s events) ×
-      (made s ≤ made (run plan s events))
-  unfolding run
-  run-fits s [] fits = (fits, omega arith)
-  run-fits s (event ∷ events) fits =
-      let one = step-fits s event fits in let rest = run-fits (step plan s event).counts events one.0 in
-      let up = one.1 in let more = rest.1 in (rest.0, omega (arith, up, more))
+  any-kept : (s : Counts) (event : Event) → Fits plan s →
+      ((step plan s event).counts ≡ s)
+      ⊎ (Fits plan (step plan s event).counts × (made s < made (step plan s event).counts))
+  any-kept s Accept fits = without_why (accept-kept plan s fits)
+  any-kept s Command fits = without_why (command-kept plan s fits)
+  any-kept s Tick fits = without_why (tick-kept plan s fits)
+  any-kept s (Carry m) fits = without_why (carry-kept slow fast slip plan s is fits m)
+  any-kept s Back fits = without_why (back-kept plan s fits)
+  any-kept s Take fits = without_why (take-kept slow fast slip plan s is fits)
 
   begun-lines : (paths : List LinePath) → AllPaths (IsSound plan.ticks slow fast slip) paths →
       Each (LineFits plan.ticks plan.ring 0 0) paths (replicate (length paths) (record { carried = 0; popped = 0 }))
@@ -93,9 +81,6 @@ module _ (slow fast slip : ℕ) (plan : Plan) (is : IsPlanOf slow fast slip plan
     used = let lag = is.lag in omega (arith, lag);
   }
 
-  reached : (events : List Event) → Fits plan (run plan (begin plan) events)
-  reached events = (run-fits (begin plan) events begin-fits).0
-
   -- ---- the inbox
   abbrev At : Counts → LinePath → LineCounts → Type 0
   At s path line = IsSound plan.ticks slow fast slip path × LineFits plan.ticks plan.ring s.ticks s.rows path line
@@ -115,23 +100,17 @@ module _ (slow fast slip : ℕ) (plan : Plan) (is : IsPlanOf slow fast slip plan
   inbox s fits = let backs = fits.backs in let rows = rows-ticks s fits in omega (arith, backs, rows)
 
   -- ---- the measure
-  kinds : (items : List Due) → length (frame_dues items) + length (command_dues items) ≡ length items
-  unfolding frame_dues command_dues
-  kinds [] = refl
-  kinds (frame_due due ∷ items) = let rest = kinds items in omega (arith, rest)
-  kinds (command_due due ∷ items) = let rest = kinds items in omega (arith, rest)
-
-  pub bounded : (s : Counts) → Fits plan s → made s ≤ bound plan
-  bounded s fits =
+  -- what is counted but the ticks and the return packets
+  pub counts-bounded : (s : Counts) → Fits plan s → s.frames + s.commands + sum_lines s.lines + s.rows
+      ≤ length plan.paths * (2 * plan.ticks) + sum_delays plan.paths + 2 * length plan.paths + length plan.items
+      + plan.ticks
+  counts-bounded s fits =
       let sums = sum-bounded plan.ticks plan.paths s.lines
       (each-map (At s) (λ path line. (line.carried ≤ plan.ticks + path.delay + 1) × (line.popped ≤ plan.ticks + 1))
       plan.paths s.lines (λ path line at_. few path line at_) (lines-at s fits)) in
-      let ticks = fits.ticks in let rows = fits.rows in let frames = fits.frames in let commands = fits.commands in
-      let backs = fits.backs in
+      let rows = fits.rows in let frames = fits.frames in let commands = fits.commands in
       let both = kinds plan.items in
-      let product : (2 * length plan.paths + 3) * plan.ticks ≡ length plan.paths * (2 * plan.ticks) + 3 * plan.ticks =
-      grind arith in
-      omega (arith, sums, ticks, rows, frames, commands, backs, both, product)
+      omega (arith, sums, rows, frames, commands, both)
     where
       few : (path : LinePath) (line : LineCounts) → At s path line → (line.carried ≤ plan.ticks + path.delay + 1) ×
           (line.popped ≤ plan.ticks + 1)
@@ -139,6 +118,14 @@ module _ (slow fast slip : ℕ) (plan : Plan) (is : IsPlanOf slow fast slip plan
           let left = at_.0.is_path.left line.carried 0 at_.1.carries (omega arith) in
           let carries = at_.1.carries in let pops = at_.1.pops in
           (carries, omega (arith, left, carries, pops))
+
+  pub bounded : (s : Counts) → Fits plan s → made s ≤ bound plan
+  bounded s fits =
+      let counts = counts-bounded s fits in
+      let ticks = fits.ticks in let rows = fits.rows in let backs = fits.backs in
+      let product : (2 * length plan.paths + 3) * plan.ticks ≡ length plan.paths * (2 * plan.ticks) + 3 * plan.ticks =
+      grind arith in
+      omega (arith, counts, ticks, rows, backs, product)
 
 -- ---- an item that holds a tick can land
 abbrev pub Lands : ℕ → List ℕ → ℕ → Type 0
@@ -211,84 +198,67 @@ path-at P (path ∷ paths) [] m line h l = absurd h
 path-at P (path ∷ paths) (other ∷ lines) zero line h l = (path, refl)
 path-at P (path ∷ paths) (other ∷ lines) (suc m) line h l = path-at P paths lines m line h.1 l
 
--- ---- events of a round
-unfoldable pub In : Event → List Event → Type 0
-In event [] = ⊥
-In event (first ∷ events) = (first ≡ event) ⊎ In event events
+-- ---- a round tries each event that names a line of the plan
+carries-try : (n m : ℕ) (paths : List LinePath) → m < length paths → Contains (carries_from n paths) (Carry (n + m))
+unfolding carries_from
+carries-try n m [] low = absurd (omega arith)
+carries-try n zero (path ∷ paths) low = (0, omega arith, ap Carry (let e : n ≡ n + 0 = omega arith in e))
+carries-try n (suc m) (path ∷ paths) low =
+    let e : suc n + m ≡ n + suc m = omega arith in
+    Contains-append_right (Carry n ∷ []) (carries_from (suc n) paths) (Carry (n + suc m))
+    (subst (λ k. Contains (carries_from (suc n) paths) (Carry k)) e (carries-try (suc n) m paths (omega arith)))
 
-in-right : (event : Event) (xs ys : List Event) → In event ys → In event (xs ++ ys)
-unfolding In
-in-right event [] ys h = h
-in-right event (x ∷ xs) ys h = inr (in-right event xs ys h)
+carries-end : (event : Event) (n : ℕ) (paths : List LinePath) → Contains (Back ∷ Take ∷ []) event →
+    Contains (carries_from n paths) event
+unfolding carries_from
+carries-end event n [] has = has
+carries-end event n (path ∷ paths) has =
+    Contains-append_right (Carry n ∷ []) (carries_from (suc n) paths) event (carries-end event (suc n) paths has)
 
-in-carries : (event : Event) (n : ℕ) (paths : List LinePath) → In event (Back ∷ Take ∷ []) →
-    In event (carries_from n paths)
-unfolding In carries_from
-in-carries event n [] h = h
-in-carries event n (path ∷ paths) h = inr (in-carries event (suc n) paths h)
+module _ (plan : Plan) where
+  abbrev many : ℕ
+  many = suc (length plan.items)
 
-in-carry : (n m : ℕ) (paths : List LinePath) → m < length paths → In (Carry (n + m)) (carries_from n paths)
-unfolding In carries_from
-in-carry n m [] h = absurd (omega arith)
-in-carry n zero (path ∷ paths) h = inl (ap Carry (let e : n ≡ n + 0 = omega arith in e))
-in-carry n (suc m) (path ∷ paths) h =
-    inr (subst (λ k. In (Carry k) (carries_from (suc n) paths)) (omega arith) (in-carry (suc n) m paths (omega arith)))
+  abbrev carries : List Event
+  carries = carries_from 0 plan.paths
 
-in-round : (plan : Plan) (event : Event) → In event (Tick ∷ carries_from 0 plan.paths) → In event (round plan)
-in-round plan event h =
-    in-right event (replicate (suc (length plan.items)) Accept)
-    (replicate (suc (length plan.items)) Command ++ Tick ∷ carries_from 0 plan.paths)
-    (in-right event (replicate (suc (length plan.items)) Command) (Tick ∷ carries_from 0 plan.paths) h)
+  round-end : (event : Event) → Contains (Tick ∷ carries) event → Contains (round plan) event
+  round-end event has =
+      Contains-append_right (replicate many Accept) (replicate many Command ++ Tick ∷ carries) event
+      (Contains-append_right (replicate many Command) (Tick ∷ carries) event has)
 
-in-accept : (plan : Plan) → In Accept (round plan)
-unfolding In
-in-accept plan = inl refl
+  behind-tick : (event : Event) → Contains carries event → Contains (round plan) event
+  behind-tick event has = round-end event (Contains-append_right (Tick ∷ []) carries event has)
 
-in-command : (plan : Plan) → In Command (round plan)
-unfolding In
-in-command plan = in-right Command (replicate (suc (length plan.items)) Accept)
-    (replicate (suc (length plan.items)) Command ++ Tick ∷ carries_from 0 plan.paths) (inl refl)
+  round-tries : (event : Event) → HasLine plan event → Contains (round plan) event
+  round-tries Accept line = (0, omega arith, refl)
+  round-tries Command line =
+      Contains-append_right (replicate many Accept) (replicate many Command ++ Tick ∷ carries) Command
+      (0, omega arith, refl)
+  round-tries Tick line = round-end Tick (0, omega arith, refl)
+  round-tries (Carry m) line =
+      behind-tick (Carry m) (subst (λ k. Contains carries (Carry k)) (let e : 0 + m ≡ m = omega arith in e)
+      (carries-try 0 m plan.paths line))
+  round-tries Back line = behind-tick Back (carries-end Back 0 plan.paths (0, omega arith, refl))
+  round-tries Take line = behind-tick Take (carries-end Take 0 plan.paths (1, omega arith, refl))
 
-in-tick : (plan : Plan) → In Tick (round plan)
-unfolding In
-in-tick plan = in-round plan Tick (inl refl)
-
-in-carry-round : (plan : Plan) (m : ℕ) → m < length plan.paths → In (Carry m) (round plan)
-unfolding In
-in-carry-round plan m h = in-round plan (Carry m)
-    (inr (subst (λ k. In (Carry k) (carries_from 0 plan.paths)) (let e : 0 + m ≡ m = omega arith in e)
-    (in-carry 0 m plan.paths h)))
-
-in-back : (plan : Plan) → In Back (round plan)
-unfolding In
-in-back plan = in-round plan Back (inr (in-carries Back 0 plan.paths (inl refl)))
-
-in-take : (plan : Plan) → In Take (round plan)
-unfolding In
-in-take plan = in-round plan Take (inr (in-carries Take 0 plan.paths (inr (inl refl))))
-
--- ---- some event of a round moves
--- an event that a round tries
-abbrev pub IsTried : Plan → Event → Type 0
-IsTried plan event = In event (round plan) × HasLine plan event
-
+-- ---- some event that names a line of the plan moves
 abbrev pub Moves : Plan → Counts → Type 0
-Moves plan s = (event : Event) × IsTried plan event × (made s < made (step plan s event).counts)
+Moves plan s = (event : Event) × HasLine plan event × (made s < made (step plan s event).counts)
 
-move : (plan : Plan) (s : Counts) (event : Event) (Why : Type 0) → IsTried plan event →
+move : (plan : Plan) (s : Counts) (event : Event) (Why : Type 0) → HasLine plan event →
     Kept plan s Why (step plan s event).counts → (Why → Moves plan s) → Moves plan s
-move plan s event Why here kept else_ = elim kept [ inl same ↦ else_ same.1 | inr more ↦ (event, here, more.1) ]
+move plan s event Why line kept else_ = elim kept [ inl same ↦ else_ same.1 | inr more ↦ (event, line, more.1) ]
 
 module _ (slow fast slip : ℕ) (plan : Plan) (is : IsPlanOf slow fast slip plan) (s : Counts) (fits : Fits plan s)
     (open_ : s.rows < plan.ticks) where
   try_back : (packets_in s.rows ≤ s.backs → Moves plan s) → Moves plan s
-  try_back else_ = move plan s Back (packets_in s.rows ≤ s.backs) (in-back plan, tt) (back-kept plan s fits) else_
+  try_back else_ = move plan s Back (packets_in s.rows ≤ s.backs) tt (back-kept plan s fits) else_
 
   try_carry : (m : ℕ) (path : LinePath) (line : LineCounts) → slice_get plan.paths m ≡ Some path →
       slice_get s.lines m ≡ Some line → (CarryWhy plan s path line → Moves plan s) → Moves plan s
   try_carry m path line p l else_ =
-      move plan s (Carry m) (NoCarry plan s m)
-      (in-carry-round plan m (slice_get_within plan.paths m path p), slice_get_within plan.paths m path p)
+      move plan s (Carry m) (NoCarry plan s m) (slice_get_within plan.paths m path p)
       (carry-kept slow fast slip plan s is fits m) (λ why. else_ (why path line p l))
 
   found : (m : ℕ) (path : LinePath) (line : LineCounts) → slice_get plan.paths m ≡ Some path →
@@ -300,11 +270,10 @@ module _ (slow fast slip : ℕ) (plan : Plan) (is : IsPlanOf slow fast slip plan
   lands : Lands s.ticks (frame_dues plan.items) s.frames ⊎ Lands s.ticks (command_dues plan.items) s.commands →
       Moves plan s
   lands (inl (due, here, now)) = move plan s Accept (NotLanded s.ticks (slice_get (frame_dues plan.items) s.frames))
-      (in-accept plan, tt) (accept-kept plan s fits)
+      tt (accept-kept plan s fits)
       (λ why. absurd (let late = why due here in omega (arith, late, now)))
   lands (inr (due, here, now)) = move plan s Command
-      (NotLanded s.ticks (slice_get (command_dues plan.items) s.commands)) (in-command plan, tt)
-      (command-kept plan s fits)
+      (NotLanded s.ticks (slice_get (command_dues plan.items) s.commands)) tt (command-kept plan s fits)
       (λ why. absurd (let late = why due here in omega (arith, late, now)))
 
   -- the starved line has carried all that was sent
@@ -345,7 +314,7 @@ module _ (slow fast slip : ℕ) (plan : Plan) (is : IsPlanOf slow fast slip plan
         try_back (λ empty_. absurd (omega (arith, late, place, none, close, lag, empty_)))
 
     tick_moves : Moves plan s
-    tick_moves = move plan s Tick (TickWhy plan s) (in-tick plan, tt) (tick-kept plan s fits) by
+    tick_moves = move plan s Tick (TickWhy plan s) tt (tick-kept plan s fits) by
       where
         by : TickWhy plan s → Moves plan s
         by (done e) = absurd (omega (arith, e, starved, short))
@@ -372,7 +341,7 @@ module _ (slow fast slip : ℕ) (plan : Plan) (is : IsPlanOf slow fast slip plan
       by path line at_ all low (steps.CarryWhy.fills e) = let ring = is.ring in absurd (omega (arith, e, all, ring))
 
   pub some_moves : Moves plan s
-  some_moves = move plan s Take (TakeWhy plan s) (in-take plan, tt) (take-kept slow fast slip plan s is fits) by
+  some_moves = move plan s Take (TakeWhy plan s) tt (take-kept slow fast slip plan s is fits) by
     where
       by : TakeWhy plan s → Moves plan s
       by (steps.TakeWhy.done e) = absurd (omega (arith, e, open_))
@@ -380,87 +349,51 @@ module _ (slow fast slip : ℕ) (plan : Plan) (is : IsPlanOf slow fast slip plan
       by (steps.TakeWhy.waits e) = stuck_moves e
 
 -- ---- rounds
+abbrev pub rounds_of : Plan → Rounds Counts Event
+rounds_of plan = record {
+  next = λ s event. (step plan s event).counts;
+  run = run plan;
+  round = round plan;
+  over = λ s. nat_le plan.ticks s.rows;
+  drain = λ k. drain k plan;
+  made = made;
+  most = bound plan;
+}
+
 module _ (slow fast slip : ℕ) (plan : Plan) (is : IsPlanOf slow fast slip plan) where
-  run-rises : (s : Counts) (event : Event) (events : List Event) → Fits plan s → In event events →
-      made s < made (step plan s event).counts → made s < made (run plan s events)
-  unfolding run In
-  run-rises s event [] fits here more = absurd here
-  run-rises s event (first ∷ events) fits here more =
-      elim (any-kept slow fast slip plan is s first fits) [
-        | inr (new, up) ↦ let rest = (run-fits slow fast slip plan is (step plan s first).counts events new).1 in
-            omega (arith, up, rest)
-        | inl same ↦ elim here [
-          | inl e ↦
-              let f : made (step plan s event).counts ≡ made s =
-              subst (λ event. made (step plan s event).counts ≡ made s) e (ap made same) in
-              absurd (omega (arith, f, more))
-          | inr later ↦ subst (λ next. made s < made (run plan next events)) (sym same)
-              (run-rises s event events fits later more)
-        ]
-      ]
+  pub are-rising : AreRising (rounds_of plan) (Fits plan)
+  unfolding run drain
+  are-rising = record {
+    run_none = λ s. refl;
+    run_more = λ s event events. refl;
+    drain_none = λ s. refl;
+    drain_more = λ k s. refl;
+    keeps = any-kept slow fast slip plan is;
+    few = bounded slow fast slip plan is;
+    moves = λ s fits open_.
+        let (event, line, more) =
+        some_moves slow fast slip plan is s fits (leb-false plan.ticks s.rows open_) in
+        (event, round-tries plan event line, more);
+  }
+
+  pub run-fits : (s : Counts) (events : List Event) → Fits plan s → Fits plan (run plan s events) ×
+      (made s ≤ made (run plan s events))
+  run-fits s events fits = run-good (rounds_of plan) (Fits plan) are-rising s events fits
+
+  pub step-fits : (s : Counts) (event : Event) → Fits plan s → Fits plan (step plan s event).counts ×
+      (made s ≤ made (step plan s event).counts)
+  unfolding run
+  step-fits s event fits = run-fits s (event ∷ []) fits
 
   pub round-rises : (s : Counts) → Fits plan s → s.rows < plan.ticks → made s < made (run plan s (round plan))
-  round-rises s fits open_ = let (event, tried, more) = some_moves slow fast slip plan is s fits open_ in
-      run-rises s event (round plan) fits tried.0 more
-
-  pub drain-ends : (k : ℕ) (s : Counts) → Fits plan s → bound plan ≤ made s + k → (drain k plan s).rows ≡ plan.ticks
-  unfolding drain
-  drain-ends zero s fits most =
-      elim (cases_lt s.rows plan.ticks) [
-        | inl open_ ↦
-            let more = round-rises s fits open_ in
-            let high = bounded slow fast slip plan is (run plan s (round plan))
-            (run-fits slow fast slip plan is s (round plan) fits).0 in
-            absurd (omega (arith, more, high, most))
-        | inr shut ↦ let rows = fits.rows in omega (arith, shut, rows)
-      ]
-  drain-ends (suc k) s fits most =
-      elim (cases_Bool (nat_le plan.ticks s.rows)) [
-        | inl e ↦ rw e (let shut = leb-true plan.ticks s.rows e in let rows = fits.rows in omega (arith, shut, rows))
-        | inr e ↦ rw e (
-            let more = round-rises s fits (leb-false plan.ticks s.rows e) in
-            drain-ends k (run plan s (round plan)) (run-fits slow fast slip plan is s (round plan) fits).0
-            (omega (arith, more, most)))
-      ]
-
-  drain-again : (k : ℕ) (s : Counts) → Fits plan s → bound plan ≤ made s + k → drain (suc k) plan s ≡ drain k plan s
-  unfolding drain
-  drain-again zero s fits most =
-      let all : s.rows ≡ plan.ticks = drain-ends zero s fits most in
-      let shut : nat_le plan.ticks s.rows ≡ true = grind (arith, all) in
-      rw shut refl
-  drain-again (suc k) s fits most =
-      elim (cases_Bool (nat_le plan.ticks s.rows)) [
-        | inl e ↦ rw e refl
-        | inr e ↦
-            let more = round-rises s fits (leb-false plan.ticks s.rows e) in
-            let again = drain-again k (run plan s (round plan)) (run-fits slow fast slip plan is s (round plan) fits).0
-            (omega (arith, more, most)) in
-            rw e again
-      ]
-
-  -- a round changes nothing of what enough rounds give
-  pub drain-turn : (s : Counts) → Fits plan s → s.rows < plan.ticks →
-      drain (bound plan) plan (run plan s (round plan)) ≡ drain (bound plan) plan s
-  unfolding drain
-  drain-turn s fits open_ = by (bound plan) refl
-    where
-      by : (most : ℕ) → bound plan ≡ most → drain most plan (run plan s (round plan)) ≡ drain most plan s
-      by zero e =
-          let more = round-rises s fits open_ in
-          let high = bounded slow fast slip plan is (run plan s (round plan))
-          (run-fits slow fast slip plan is s (round plan) fits).0 in
-          absurd (omega (arith, more, high, e))
-      by (suc k) e =
-          let more = round-rises s fits open_ in
-          let shut : nat_le plan.ticks s.rows ≡ false = grind (arith, open_) in
-          drain-again k (run plan s (round plan)) (run-fits slow fast slip plan is s (round plan) fits).0
-          (omega (arith, more, e)) ∙ rw shut refl
+  round-rises s fits open_ =
+      rises.round-rises (rounds_of plan) (Fits plan) are-rising s fits (lt-leb plan.ticks s.rows open_)
 
 -- ---- what is reached
 pub reached-fits : (plan : Plan) (s : Counts) → IsPlan plan → IsReached plan s → Fits plan s
 reached-fits plan s plan_is there =
-    subst (Fits plan) (sym there.1) (reached plan_is.slow plan_is.fast plan_is.slip plan plan_is.is there.0)
+    subst (Fits plan) (sym there.1) (run-fits plan_is.slow plan_is.fast plan_is.slip plan plan_is.is (begin plan)
+    there.0 (begin-fits plan_is.slow plan_is.fast plan_is.slip plan plan_is.is)).0
 
 pub inbox-fits : (plan : Plan) (s : Counts) → IsPlan plan → IsReached plan s → in_inbox plan s ≤ plan.lag
 inbox-fits plan s plan_is there =
@@ -472,29 +405,32 @@ reached-moves plan s plan_is there open_ =
 
 pub reached-ends : (plan : Plan) (s : Counts) → IsPlan plan → IsReached plan s →
     (drain (bound plan) plan s).rows ≡ plan.ticks
-reached-ends plan s plan_is there =
-    drain-ends plan_is.slow plan_is.fast plan_is.slip plan plan_is.is (bound plan) s (reached-fits plan s plan_is there)
-    (omega arith)
+reached-ends plan s is there =
+    let (fits, over) = drain-over (rounds_of plan) (Fits plan)
+    (are-rising is.slow is.fast is.slip plan is.is) (bound plan) s (reached-fits plan s is there) (omega arith) in
+    let shut = leb-true plan.ticks (drain (bound plan) plan s).rows over in
+    let rows = fits.rows in
+    omega (arith, shut, rows)
 
 -- ---- What a loop over rounds needs: each round with rows left makes more, and leaves what all rounds give as it is.
 -- the measure falls
 pub round-less : (plan : Plan) (s : Counts) → IsPlan plan → Fits plan s → s.rows < plan.ticks →
     bound plan - made (run plan s (round plan)) < bound plan - made s
 round-less plan s is fits open_ =
-    let more = round-rises is.slow is.fast is.slip plan is.is s fits open_ in
-    let next = (run-fits is.slow is.fast is.slip plan is.is s (round plan) fits).0 in
-    let most = bounded is.slow is.fast is.slip plan is.is (run plan s (round plan)) next in
-    omega (arith, more, most)
+    rises.round-less (rounds_of plan) (Fits plan) (are-rising is.slow is.fast is.slip plan is.is) s fits
+    (lt-leb plan.ticks s.rows open_)
 
 -- the rest of a drain gives what the whole gives
 pub drain-round : (plan : Plan) (s : Counts) → IsPlan plan → Fits plan s → s.rows < plan.ticks →
     drain (bound plan) plan (run plan s (round plan)) ≡ drain (bound plan) plan s
-drain-round plan s is fits open_ = drain-turn is.slow is.fast is.slip plan is.is s fits open_
+drain-round plan s is fits open_ =
+    drain-turn (rounds_of plan) (Fits plan) (are-rising is.slow is.fast is.slip plan is.is) s fits
+    (lt-leb plan.ticks s.rows open_)
 
 pub drain-stop : (k : ℕ) (plan : Plan) (s : Counts) → plan.ticks ≤ s.rows → drain k plan s ≡ s
 unfolding drain
 drain-stop zero plan s h = refl
-drain-stop (suc k) plan s h = let shut : nat_le plan.ticks s.rows ≡ true = grind (arith, h) in rw shut refl
+drain-stop (suc k) plan s h = rw (le-leb plan.ticks s.rows h) refl
 
 -- ---- What is reached by events, by event lines and by drains.
 pub run-append : (plan : Plan) (s : Counts) (xs ys : List Event) → run plan s (xs ++ ys) ≡ run plan (run plan s xs) ys
@@ -557,4 +493,4 @@ reached-progress plan s is there open_ =
     let found = reached-moves plan s is there open_ in
     let beside = each-map (LineFits plan.ticks plan.ring s.ticks s.rows) (λ path line. Unit {0}) plan.paths s.lines
     (λ path line fits. tt) (reached-fits plan s is there).lines in
-    (found.0, found.1.1, is_progress plan s found.0 beside found.2)
+    (found.0, found.1, is_progress plan s found.0 beside found.2)

@@ -1,107 +1,35 @@
 -- A stalled event changes nothing, but that a Take keeps the cells which it popped.
-use Rattle.std.proofs.Common.{◌≡◌, ◌⊎◌, ℕ, suc, ◌+◌, ◌<◌, nat_le, nat_lt, ◌&&◌, inl, inr, List, [], ◌∷◌, sum_by}
-use Rattle.std.proofs.Common.{Option, Some, None, slice_get, refl, ◌∙◌, ap, arith}
+use Rattle.std.proofs.Common.{◌≡◌, ◌⊎◌, ℕ, suc, ◌+◌, ◌<◌, nat_le, inl, inr, List, [], ◌∷◌, sum_by, Option, Some, None}
+use Rattle.std.proofs.Common.{slice_get, refl, ◌∙◌, ap, arith}
 use Rattle.std.proofs.lemmas.Bool.{cases_Bool}
 use Rattle.std.proofs.lemmas.List.Sums.{sum_by-cons}
-use Rattle.law_model.specs.Common.{frame_dues, command_dues, LinePath, LineCounts, Plan, Counts, Step, land_due, held}
-use Rattle.law_model.specs.Common.{full, is_missing, tick_full, tick_held, tick, in_send, in_receive, carry_on}
-use Rattle.law_model.specs.Common.{carry_at, in_return, popped_line, pop_lines, take_popped, is_back_full, take_row}
-use Rattle.law_model.specs.Common.{step}
+use Rattle.law_model.specs.Common.{frame_dues, command_dues, LinePath, LineCounts, Plan, Counts, Step, popped_line}
+use Rattle.law_model.specs.Common.{pop_lines, take_row, step}
 use Rattle.law_model.specs.declared.walk_events.Event.{Event}
 use Rattle.law_model.specs.declared.walk_events.Event.TheVariants.{Accept, Tick, Carry, Back, Take, Command}
 use Rattle.law_model.specs.declared.walk_events.StallCause.{StallCause}
-use Rattle.law_model.specs.session.Counts.{back}
+use Rattle.law_progress.proofs.EventOutcomeLaws.{land-gives, tick-gives, carry-gives, back-gives, take-gives}
 use Rattle.law_progress.specs.Progress.{Each, sum_lines, made, ChangesNothing, IsProgress}
 
 -- A stalled event changes nothing, but that a Take keeps the cells which it popped: so what raises the sum of all
 -- counts is progress.
--- ---- each event but Take moves, or changes nothing
-abbrev pub Stays : Counts → Step → Type 0
-Stays s next = (next.cause ≡ None) ⊎ (next.counts ≡ s)
+-- what an event may give: it moves, or changes nothing but what a Take may
+abbrev StaysOrPops : Counts → Event → Step → Type 0
+StaysOrPops s event next = (next.cause ≡ None)
+    ⊎ ((next.counts ≡ s) ⊎ ((event ≡ Take) × (next.counts ≡ record s { lines = next.counts.lines })))
 
-Stays-land : (ticks : ℕ) (due : Option ℕ) (s next : Counts) → Stays s (land_due ticks due s next)
-Stays-land ticks None s next = inr refl
-Stays-land ticks (Some due) s next =
-    elim (cases_Bool (nat_lt ticks due)) [ inl e ↦ rw e (inr refl) | inr e ↦ rw e (inl refl) ]
-
-Stays-full : (line : Option ℕ) (plan : Plan) (s : Counts) → Stays s (tick_full line plan s)
-Stays-full (Some line) plan s = inr refl
-Stays-full None plan s = elim (cases_Bool (is_missing plan s)) [ inl e ↦ rw e (inr refl) | inr e ↦ rw e (inl refl) ]
-
-Stays-held : (item : Option ℕ) (plan : Plan) (s : Counts) → Stays s (tick_held item plan s)
-Stays-held (Some item) plan s = inr refl
-Stays-held None plan s = Stays-full (full plan.ticks s.ticks 0 s.lines) plan s
-
-Stays-tick : (plan : Plan) (s : Counts) → Stays s (tick plan s)
-Stays-tick plan s =
-    elim (cases_Bool (nat_le plan.ticks s.ticks)) [
-      | inl e ↦ rw e (inr refl)
-      | inr e ↦ rw e (Stays-held (held s.ticks s.frames s.commands 0 plan.items) plan s)
-    ]
-
-Stays-on : (plan : Plan) (s : Counts) (m : ℕ) (path : LinePath) (line : LineCounts) →
-    Stays s (carry_on plan s m path line)
-Stays-on plan s m path line =
-    elim (cases_Bool (nat_lt (plan.ticks + path.delay) line.carried)) [
-      | inl e ↦ rw e (inr refl)
-      | inr e ↦ rw e (elim (cases_Bool (nat_lt line.carried plan.ticks && nat_le (in_send plan.ticks s.ticks line) 0)) [
-        | inl f ↦ rw f (inr refl)
-        | inr f ↦ rw f (elim (cases_Bool (nat_le plan.ring (in_receive path line))) [
-          | inl g ↦ rw g (inr refl)
-          | inr g ↦ rw g (inl refl)
-        ])
-      ])
-    ]
-
-Stays-at : (plan : Plan) (s : Counts) (m : ℕ) (path : Option LinePath) (line : Option LineCounts) →
-    Stays s (carry_at plan s m path line)
-Stays-at plan s m (Some path) (Some line) = Stays-on plan s m path line
-Stays-at plan s m (Some path) None = inr refl
-Stays-at plan s m None line = inr refl
-
-Stays-back : (s : Counts) → Stays s (back s)
-Stays-back s = elim (cases_Bool (nat_le (in_return s) 0)) [ inl e ↦ rw e (inr refl) | inr e ↦ rw e (inl refl) ]
-
--- ---- a Take moves, or changes the lines alone
-abbrev pub KeepsAll : Counts → Step → Type 0
-KeepsAll s next = (next.cause ≡ None) ⊎ (next.counts ≡ record s { lines = next.counts.lines })
-
-KeepsAll-popped : (s : Counts) (lines : List LineCounts) (waiting : Option ℕ) → KeepsAll s (take_popped s lines waiting)
-KeepsAll-popped s lines (Some line) = inr refl
-KeepsAll-popped s lines None = inl refl
-
-KeepsAll-take : (plan : Plan) (s : Counts) → KeepsAll s (take_row plan s)
-KeepsAll-take plan s =
-    elim (cases_Bool (nat_le plan.ticks s.rows)) [
-      | inl e ↦ rw e (inr refl)
-      | inr e ↦ rw e (elim (cases_Bool (is_back_full s)) [
-        | inl f ↦ rw f (inr refl)
-        | inr f ↦ rw f (KeepsAll-popped s (pop_lines s.rows 0 plan.paths s.lines).lines
-            (pop_lines s.rows 0 plan.paths s.lines).waiting)
-      ])
-    ]
-
-abbrev pub StaysOrPops : Plan → Counts → Event → Type 0
-StaysOrPops plan s event = ((step plan s event).cause ≡ None) ⊎ ChangesNothing plan s event
-
-but_take : (plan : Plan) (s : Counts) (event : Event) → Stays s (step plan s event) → StaysOrPops plan s event
-but_take plan s event (inl moves) = inl moves
-but_take plan s event (inr same) = inr (inl same)
-
-at_take : (plan : Plan) (s : Counts) → KeepsAll s (take_row plan s) → StaysOrPops plan s Take
-at_take plan s (inl moves) = inl moves
-at_take plan s (inr same) = inr (inr (refl, same))
-
-stays_or_pops : (plan : Plan) (s : Counts) (event : Event) → StaysOrPops plan s event
-stays_or_pops plan s Accept = but_take plan s Accept
-    (Stays-land s.ticks (slice_get (frame_dues plan.items) s.frames) s (record s { frames = s.frames + 1 }))
-stays_or_pops plan s Command = but_take plan s Command
-    (Stays-land s.ticks (slice_get (command_dues plan.items) s.commands) s (record s { commands = s.commands + 1 }))
-stays_or_pops plan s Tick = but_take plan s Tick (Stays-tick plan s)
+stays_or_pops : (plan : Plan) (s : Counts) (event : Event) → StaysOrPops s event (step plan s event)
+stays_or_pops plan s Accept = land-gives (StaysOrPops s Accept) s (record s { frames = s.frames + 1 })
+    (slice_get (frame_dues plan.items) s.frames) (λ cause. inr (inl refl)) (λ due there now. inl refl)
+stays_or_pops plan s Command = land-gives (StaysOrPops s Command) s (record s { commands = s.commands + 1 })
+    (slice_get (command_dues plan.items) s.commands) (λ cause. inr (inl refl)) (λ due there now. inl refl)
+stays_or_pops plan s Tick =
+    tick-gives (StaysOrPops s Tick) plan s (λ cause. inr (inl refl)) (λ none. inl refl)
 stays_or_pops plan s (Carry m) =
-    but_take plan s (Carry m) (Stays-at plan s m (slice_get plan.paths m) (slice_get s.lines m))
-stays_or_pops plan s Back = but_take plan s Back (Stays-back s)
-stays_or_pops plan s Take = at_take plan s (KeepsAll-take plan s)
+    carry-gives (StaysOrPops s (Carry m)) plan s m (λ cause. inr (inl refl)) (λ line. inl refl)
+stays_or_pops plan s Back = back-gives (StaysOrPops s Back) plan s (λ cause. inr (inl refl)) (inl refl)
+stays_or_pops plan s Take =
+    take-gives (StaysOrPops s Take) plan s (λ cause. inr (inl refl)) (λ line. inr (inr (refl, refl))) (inl refl)
 
 none_cause : (found : Option StallCause) (cause : StallCause) → found ≡ None → found ≡ Some cause → ⊥
 none_cause found cause e f = cc
@@ -148,32 +76,14 @@ carries-pop_lines t m (path ∷ paths) (line ∷ lines) beside =
           (carries-pop_lines t (suc m) paths lines beside.1))
     ]
 
--- the lines of a Take that waits are those it popped, or all as they were
-CarriesSame : Counts → Step → Type 0
-CarriesSame s next = carries next.counts.lines ≡ carries s.lines
-
-carries-popped : (s : Counts) (lines : List LineCounts) (waiting : Option ℕ) → carries lines ≡ carries s.lines →
-    CarriesSame s (take_popped s lines waiting)
-unfolding CarriesSame
-carries-popped s lines (Some line) same = same
-carries-popped s lines None same = same
-
 carries-take : (plan : Plan) (s : Counts) → Each (λ path line. Unit {0}) plan.paths s.lines →
-    CarriesSame s (take_row plan s)
-unfolding CarriesSame
+    carries (take_row plan s).counts.lines ≡ carries s.lines
 carries-take plan s beside =
-    elim (cases_Bool (nat_le plan.ticks s.rows)) [
-      | inl e ↦ rw e refl
-      | inr e ↦ rw e (elim (cases_Bool (is_back_full s)) [
-        | inl f ↦ rw f refl
-        | inr f ↦ rw f (carries-popped s (pop_lines s.rows 0 plan.paths s.lines).lines
-            (pop_lines s.rows 0 plan.paths s.lines).waiting (carries-pop_lines s.rows 0 plan.paths s.lines beside))
-      ])
-    ]
+    let popped = carries-pop_lines s.rows 0 plan.paths s.lines beside in
+    take-gives (λ next. carries next.counts.lines ≡ carries s.lines) plan s (λ cause. refl) (λ line. popped) popped
 
 pub is_progress : (plan : Plan) (s : Counts) (event : Event) → Each (λ path line. Unit {0}) plan.paths s.lines →
     made s < made (step plan s event).counts → IsProgress plan s event
-unfolding CarriesSame
 is_progress plan s event beside more = elim (stays_or_pops plan s event) [
   | inl moves ↦ inl moves
   | inr (inl same) ↦ let e = ap made same in absurd (omega arith)

@@ -1,74 +1,31 @@
 -- A walk by the clock: which items land with a tick, which lines carry in a round, and the counts after some rounds.
 use Rattle.std.proofs.Common.{◌≡◌, ◌↔◌, ℕ, zero, suc, ◌+◌, ◌<◌, ◌≤◌, nat_lt, inl, inr, List, [], ◌∷◌, length}
-use Rattle.std.proofs.Common.{replicate, Option, Some, None, slice_get, refl, sym, ◌∙◌, ap, subst, arith, ◌-◌, min}
+use Rattle.std.proofs.Common.{replicate, Some, None, slice_get, refl, sym, ◌∙◌, ap, subst, arith, ◌-◌, min}
 use Rattle.std.proofs.Common.{nat_le, ◌&&◌, false, ◌++◌, slice_set, ap₂, append_assoc, length-append, leb-false}
 use Rattle.std.proofs.Common.{append-nil, ◌*◌, ◌%◌, ◌==◌}
-use Rattle.std.specs.Prelude.{if◌then◌else◌}
 use Rattle.std.specs.List.Sorted.{IsNonDecreasing}
 use Rattle.std.proofs.lemmas.Bool.{cases_Bool, cases_lt, lt-leb, lt-ltb, le-ltb, le-leb, leb-true, eqb-true}
-use Rattle.std.proofs.lemmas.Option.{slice_get_within, slice_get_cases, get_or_from_slice_get, same_Some}
+use Rattle.std.proofs.lemmas.Option.{slice_get_within, get_or_from_slice_get, same_Some}
 use Rattle.law_model.specs.declared.walk_events.Event.TheVariants.{Command, Accept, Carry, Back, Take, Tick}
-use Rattle.law_model.specs.Common.{Due, frame_due, command_due, frame_dues, command_dues, Plan, Counts, land_due, held}
-use Rattle.law_model.specs.Common.{accept, command, run, LinePath, LineCounts, in_send, in_receive, full, carry_on}
+use Rattle.law_model.specs.Common.{frame_dues, command_dues, Plan, Counts}
+use Rattle.law_model.specs.Common.{run, LinePath, LineCounts, in_send, in_receive, full, carry_on}
 use Rattle.law_model.specs.Common.{carry_at, pop, popped_line, pop_lines, step, carries_from, in_return, in_inbox}
-use Rattle.law_model.specs.Common.{is_missing, take_popped, is_back_full, take_row, begin, round, drain, bound}
-use Rattle.law_model.proofs.ListLaws.{slice_get-append_seam}
+use Rattle.law_model.specs.Common.{is_missing, is_back_full, take_row, begin, round, drain, bound, Step}
+use Rattle.law_model.proofs.ListLaws.{rest-in_order, slice_get-append_seam, slice_get-inside}
 use Rattle.law_loss.proofs.ClientFrameExtentLaws.{and_false}
 use Rattle.law_progress.specs.Progress.{IsSound, IsPlanOf, Each, LineFits, Fits}
 use Rattle.law_model.specs.declared.walk_events.Event.{Event}
 use Rattle.law_model.specs.session.Counts.{back}
 use Rattle.law_model.specs.session.Scenario.{packets_in}
 use Rattle.law_progress.proofs.EventBoundAndStallCauseLaws.{each-map, each-with}
-use Rattle.law_progress.proofs.RoundProgressAndDrainLaws.{drain-stop, step-fits, run-fits, begin-fits, drain-turn}
+use Rattle.law_progress.proofs.EventOutcomeLaws.{take-gives}
+use Rattle.law_progress.proofs.RoundProgressAndDrainLaws.{drain-stop, step-fits, run-fits, begin-fits, drain-round}
 use Rattle.law_progress.proofs.RoundProgressAndDrainLaws.{run-append}
+use Rattle.law_live.proofs.LiveRoundAndLandingLaws.{Here, accepts as accepts-land, commands as commands-land, few-commands}
+use Rattle.law_live.proofs.LiveRoundAndLandingLaws.{few-frames, none-held}
 use Rattle.law_service.specs.ClockedWalk.{after_rounds, KeepsTime}
 
 -- ---- The items that land with a tick that is made by the clock: all that are due, and no others.
--- ---- how many have landed after some tries
-abbrev try_land : ℕ → ℕ → Option ℕ → ℕ
-try_land ticks a None = a
-try_land ticks a (Some due) = if nat_lt ticks due then a else a + 1
-
-unfoldable pub tries : ℕ → ℕ → List ℕ → ℕ → ℕ
-tries zero ticks dues a = a
-tries (suc n) ticks dues a = tries n ticks dues (try_land ticks a (slice_get dues a))
-
-accept-try : (plan : Plan) (s : Counts) →
-    (accept plan s).counts ≡ record s { frames = try_land s.ticks s.frames (slice_get (frame_dues plan.items) s.frames) }
-accept-try plan s = by (slice_get (frame_dues plan.items) s.frames)
-  where
-    by : (due : Option ℕ) → (land_due s.ticks due s (record s { frames = s.frames + 1 })).counts
-        ≡ record s { frames = try_land s.ticks s.frames due }
-    by None = refl
-    by (Some due) = elim (cases_Bool (nat_lt s.ticks due)) [ inl e ↦ rw e refl | inr e ↦ rw e refl ]
-
-pub accepts-run : (n : ℕ) (plan : Plan) (s : Counts) → run plan s (replicate n Accept)
-    ≡ record s { frames = tries n s.ticks (frame_dues plan.items) s.frames }
-unfolding run tries
-accepts-run zero plan s = refl
-accepts-run (suc n) plan s =
-    ap (λ (next : Counts). run plan next (replicate n Accept)) (accept-try plan s)
-    ∙ accepts-run n plan
-    (record s { frames = try_land s.ticks s.frames (slice_get (frame_dues plan.items) s.frames) })
-
-command-try : (plan : Plan) (s : Counts) → (command plan s).counts
-    ≡ record s { commands = try_land s.ticks s.commands (slice_get (command_dues plan.items) s.commands) }
-command-try plan s = by (slice_get (command_dues plan.items) s.commands)
-  where
-    by : (due : Option ℕ) → (land_due s.ticks due s (record s { commands = s.commands + 1 })).counts
-        ≡ record s { commands = try_land s.ticks s.commands due }
-    by None = refl
-    by (Some due) = elim (cases_Bool (nat_lt s.ticks due)) [ inl e ↦ rw e refl | inr e ↦ rw e refl ]
-
-pub commands-run : (n : ℕ) (plan : Plan) (s : Counts) → run plan s (replicate n Command)
-    ≡ record s { commands = tries n s.ticks (command_dues plan.items) s.commands }
-unfolding run tries
-commands-run zero plan s = refl
-commands-run (suc n) plan s =
-    ap (λ (next : Counts). run plan next (replicate n Command)) (command-try plan s)
-    ∙ commands-run n plan
-    (record s { commands = try_land s.ticks s.commands (slice_get (command_dues plan.items) s.commands) })
-
 -- ---- which have landed
 -- those are the ones that are due before a tick
 abbrev pub AreBefore : ℕ → List ℕ → ℕ → Type 0
@@ -77,13 +34,6 @@ AreBefore tick dues a = (i due : ℕ) → slice_get dues i ≡ Some due → (i <
 abbrev pub DueBelow : ℕ → List ℕ → ℕ → Type 0
 DueBelow ticks dues a = (i due : ℕ) → i < a → slice_get dues i ≡ Some due → due ≤ ticks
 
-abbrev pub NoneDue : ℕ → List ℕ → ℕ → Type 0
-NoneDue ticks dues a = (i due : ℕ) → a ≤ i → slice_get dues i ≡ Some due → ticks < due
-
-pub record AllLanded (ticks : ℕ) (dues : List ℕ) (a : ℕ) : Type 0 where
-  pub before : DueBelow ticks dues a
-  pub behind : NoneDue ticks dues a
-
 dues-rise : (dues : List ℕ) (i j early late : ℕ) → IsNonDecreasing dues → i ≤ j → slice_get dues i ≡ Some early →
     slice_get dues j ≡ Some late → early ≤ late
 dues-rise dues i j early late order low one other =
@@ -91,80 +41,70 @@ dues-rise dues i j early late order low one other =
     let f = get_or_from_slice_get dues j late 0 other in
     omega (arith, get_or_from_slice_get dues i early 0 one, f, order i j 0 low inside)
 
-tries-stay : (n ticks : ℕ) (dues : List ℕ) (a due : ℕ) → slice_get dues a ≡ Some due → ticks < due →
-    tries n ticks dues a ≡ a
-unfolding tries
-tries-stay zero ticks dues a due here late = refl
-tries-stay (suc n) ticks dues a due here late =
-    rw (here, lt-ltb ticks due late) (tries-stay n ticks dues a due here late)
+here-more : (from until due count : ℕ) (dues : List ℕ) → due ≤ from → Here dues from until count →
+    Here (due ∷ dues) from until (suc count)
+here-more from until due count dues now here =
+    record { early = early; few = (let few = here.few in omega (arith, few)); late = late }
+  where
+    early : (i other : ℕ) → i < suc count → slice_get (due ∷ dues) i ≡ Some other → other ≤ from
+    early zero other inside there = let same = same_Some due other there in omega (arith, same, now)
+    early (suc i) other inside there = here.early i other (omega (arith, inside)) there
 
-tries-land : (n ticks : ℕ) (dues : List ℕ) (a : ℕ) → IsNonDecreasing dues → DueBelow ticks dues a →
-    length dues ≤ a + n → AllLanded ticks dues (tries n ticks dues a)
-unfolding tries
-tries-land zero ticks dues a order before enough = record {
-  before = before;
-  behind = λ i due low here. absurd (let inside = slice_get_within dues i due here in omega (arith, enough, low, inside));
-}
-tries-land (suc n) ticks dues a order before enough = elim ((slice_get_cases dues a).1) [
-  | inr past ↦ rw past.1 (tries-land n ticks dues a order before (let p = past.0 in omega (arith, p)))
-  | inl here ↦ elim (cases_lt ticks here.0) [
-    | inl late ↦
-        rw (here.2, lt-ltb ticks here.0 late)
-        (subst (AllLanded ticks dues) (sym (tries-stay n ticks dues a here.0 here.2 late)) (record {
-          before = before;
-          behind = λ i due low there.
-              let up = dues-rise dues a i here.0 due order low here.2 there in omega (arith, late, up);
-        }))
-    | inr now ↦
-        rw (here.2, le-ltb ticks here.0 now)
-        (tries-land n ticks dues (a + 1) order
-        (λ i due low there. elim (cases_lt i a) [
-          | inl less ↦ before i due less there
-          | inr more ↦
-              let same : i ≡ a = omega (arith, low, more) in
-              let e : here.0 ≡ due = same_Some here.0 due
-              (sym here.2 ∙ subst (λ i. slice_get dues i ≡ Some due) same there) in
-              omega (arith, e, now)
-        ])
-        (omega (arith, enough)))
-  ]
+    late : (i other : ℕ) → suc count ≤ i → slice_get (due ∷ dues) i ≡ Some other → until ≤ other
+    late zero other beyond there = absurd (omega (arith, beyond))
+    late (suc i) other beyond there = here.late i other (omega (arith, beyond)) there
+
+-- how many are due by a tick
+due-by : (ticks : ℕ) (dues : List ℕ) → IsNonDecreasing dues → (count : ℕ) × Here dues ticks (suc ticks) count
+due-by ticks [] order = (
+  0,
+  record {
+    early = λ i due inside there. absurd cc;
+    few = omega arith;
+    late = λ i due beyond there. absurd cc;
+  },
+)
+due-by ticks (due ∷ dues) order = elim (cases_lt ticks due) [
+  | inl late ↦ (
+    0,
+    record {
+      early = λ i other inside there. absurd (omega (arith, inside));
+      few = omega arith;
+      late = λ i other beyond there.
+          let up = dues-rise (due ∷ dues) 0 i due other order (omega arith) refl there in omega (arith, late, up);
+    },
+  )
+  | inr now ↦
+      let (count, here) = due-by ticks dues (rest-in_order due dues order) in
+      (suc count, here-more ticks (suc ticks) due count dues now here)
 ]
 
--- one tick more
-pub lands-next : (n ticks : ℕ) (dues : List ℕ) (a : ℕ) → IsNonDecreasing dues → DueBelow ticks dues a →
-    length dues ≤ n → AllLanded ticks dues (tries n ticks dues a)
-lands-next n ticks dues a order before enough = tries-land n ticks dues a order before (omega (arith, enough))
+-- where no more have landed than are due
+below-few : (ticks a count : ℕ) (dues : List ℕ) → DueBelow ticks dues a → a ≤ length dues →
+    Here dues ticks (suc ticks) count → a ≤ count
+below-few ticks a count dues before few here = elim (cases_lt count a) [
+  | inr more ↦ more
+  | inl less ↦
+      let (due, there) = slice_get-inside dues count (omega (arith, less, few)) in
+      let now = before count due less there in
+      let late = here.late count due (omega arith) there in
+      absurd (omega (arith, now, late))
+]
 
 pub before-below : (tick ticks : ℕ) (dues : List ℕ) (a : ℕ) → tick ≤ ticks + 1 → AreBefore tick dues a →
     DueBelow ticks dues a
 before-below tick ticks dues a low are i due inside here =
     let early = (are i due here).0 inside in omega (arith, early, low)
 
-pub landed-before : (ticks tick : ℕ) (dues : List ℕ) (a : ℕ) → tick ≡ ticks + 1 → AllLanded ticks dues a →
+pub landed-before : (ticks tick : ℕ) (dues : List ℕ) (a : ℕ) → tick ≡ ticks + 1 → Here dues ticks (suc ticks) a →
     AreBefore tick dues a
 landed-before ticks tick dues a same landed i due here = (
-  λ inside. let early = landed.before i due inside here in omega (arith, early, same),
+  λ inside. let early = landed.early i due inside here in omega (arith, early, same),
   λ early. elim (cases_lt i a) [
     | inl inside ↦ inside
-    | inr past ↦ absurd (let late = landed.behind i due past here in omega (arith, late, early, same))
+    | inr past ↦ absurd (let late = landed.late i due past here in omega (arith, late, early, same))
   ],
 )
-
--- ---- no item holds a tick
-pub none-held : (ticks a b i : ℕ) (items : List Due) → NoneDue ticks (frame_dues items) a →
-    NoneDue ticks (command_dues items) b → held ticks a b i items ≡ None
-unfolding held frame_dues command_dues
-none-held ticks a b i [] frames commands = refl
-none-held ticks zero b i (frame_due due ∷ items) frames commands =
-    rw (lt-leb due ticks (frames 0 due (omega arith) refl))
-    (none-held ticks zero b (suc i) items (λ j d low here. frames (suc j) d (omega arith) here) commands)
-none-held ticks (suc a) b i (frame_due due ∷ items) frames commands =
-    none-held ticks a b (suc i) items (λ j d low here. frames (suc j) d (omega (arith, low)) here) commands
-none-held ticks a zero i (command_due due ∷ items) frames commands =
-    rw (lt-leb due ticks (commands 0 due (omega arith) refl))
-    (none-held ticks a zero (suc i) items frames (λ j d low here. commands (suc j) d (omega arith) here))
-none-held ticks a (suc b) i (command_due due ∷ items) frames commands =
-    none-held ticks a b (suc i) items frames (λ j d low here. commands (suc j) d (omega (arith, low)) here)
 
 -- ---- The lines of a walk by the clock: each carries once in a round, and has the cells of the row that is taken.
 -- ---- lines after some rounds
@@ -361,8 +301,8 @@ has-come plan slow s lag come = elim (cases_Bool (nat_le (16 * plan.lag + 8) s.t
 ]
 
 tick-clock : (plan : Plan) (slow count : ℕ) (s : Counts) → 17 + slow ≤ 16 * plan.lag →
-    s.ticks ≡ min count plan.ticks → NoneDue s.ticks (frame_dues plan.items) s.frames →
-    NoneDue s.ticks (command_dues plan.items) s.commands → Each (IsCarried plan.ticks count) plan.paths s.lines →
+    s.ticks ≡ min count plan.ticks → Here (frame_dues plan.items) s.ticks (suc s.ticks) s.frames →
+    Here (command_dues plan.items) s.ticks (suc s.ticks) s.commands → Each (IsCarried plan.ticks count) plan.paths s.lines →
     s.backs ≡ packets_in (min (count - 1 - slow) plan.ticks) →
     (step plan s Tick).counts ≡ record s { ticks = min (suc count) plan.ticks }
 tick-clock plan slow count s lag ticks_is frames commands lines backs_are = elim (cases_lt s.ticks plan.ticks) [
@@ -375,7 +315,7 @@ tick-clock plan slow count s lag ticks_is frames commands lines backs_are = elim
       let f : s.ticks + 1 ≡ min (suc count) plan.ticks = omega (arith, open_, ticks_is) in
       rw (
         lt-leb plan.ticks s.ticks open_,
-        none-held s.ticks s.frames s.commands 0 plan.items frames commands,
+        none-held s.ticks s.frames s.commands 0 plan.items frames.late commands.late,
         none-full plan.ticks s.ticks count 0 plan.paths s.lines ticks_is lines,
         has-come plan slow s lag (omega (arith, backs)),
       )
@@ -395,39 +335,18 @@ back-clock s low high = elim (cases_lt s.backs (packets_in s.rows)) [
 ]
 
 -- ---- Take
-popped-shape : (s : Counts) (lines : List LineCounts) (waiting : Option ℕ) →
-    (take_popped s lines waiting).counts
-    ≡ record s { lines = (take_popped s lines waiting).counts.lines; rows = (take_popped s lines waiting).counts.rows }
-popped-shape s lines (Some line) = refl
-popped-shape s lines None = refl
+abbrev HasShape : Counts → Step → Type 0
+HasShape s next = next.counts ≡ record s { lines = next.counts.lines; rows = next.counts.rows }
 
-take-shape : (plan : Plan) (s : Counts) → (take_row plan s).counts
-    ≡ record s { lines = (take_row plan s).counts.lines; rows = (take_row plan s).counts.rows }
-take-shape plan s = elim (cases_Bool (nat_le plan.ticks s.rows)) [
-  | inl e ↦ rw e refl
-  | inr e ↦ rw e (elim (cases_Bool (is_back_full s)) [
-    | inl f ↦ rw f refl
-    | inr f ↦ rw f (popped-shape s (pop_lines s.rows 0 plan.paths s.lines).lines
-        (pop_lines s.rows 0 plan.paths s.lines).waiting)
-  ])
-]
-
-popped-lines : (s : Counts) (P : List LineCounts → Type 0) (lines : List LineCounts) (waiting : Option ℕ) → P lines →
-    P (take_popped s lines waiting).counts.lines
-popped-lines s P lines (Some line) is = is
-popped-lines s P lines None is = is
+take-shape : (plan : Plan) (s : Counts) → HasShape s (take_row plan s)
+take-shape plan s = take-gives (HasShape s) plan s (λ cause. refl) (λ line. refl) refl
 
 take-lines : (plan : Plan) (count : ℕ) (s : Counts) → Each (IsCarried plan.ticks count) plan.paths s.lines →
     Each (IsCarried plan.ticks count) plan.paths (take_row plan s).counts.lines
-take-lines plan count s each = elim (cases_Bool (nat_le plan.ticks s.rows)) [
-  | inl e ↦ rw e each
-  | inr e ↦ rw e (elim (cases_Bool (is_back_full s)) [
-    | inl f ↦ rw f each
-    | inr f ↦ rw f (popped-lines s (Each (IsCarried plan.ticks count) plan.paths)
-        (pop_lines s.rows 0 plan.paths s.lines).lines (pop_lines s.rows 0 plan.paths s.lines).waiting
-        (pops-carried plan.ticks count s.rows 0 plan.paths s.lines each))
-  ])
-]
+take-lines plan count s each =
+    let popped = pops-carried plan.ticks count s.rows 0 plan.paths s.lines each in
+    take-gives (λ next. Each (IsCarried plan.ticks count) plan.paths next.counts.lines) plan s (λ cause. each)
+    (λ line. popped) popped
 
 take-done : (plan : Plan) (s : Counts) → plan.ticks ≤ s.rows → (take_row plan s).counts.rows ≡ s.rows
 take-done plan s done = rw (le-leb plan.ticks s.rows done) refl
@@ -464,18 +383,6 @@ begins slow plan = record {
   rows = omega arith;
   backs = omega arith;
 }
-
-frames-few : (items : List Due) → length (frame_dues items) ≤ length items
-unfolding frame_dues
-frames-few [] = omega arith
-frames-few (frame_due due ∷ items) = let rest = frames-few items in omega (arith, rest)
-frames-few (command_due due ∷ items) = let rest = frames-few items in omega (arith, rest)
-
-commands-few : (items : List Due) → length (command_dues items) ≤ length items
-unfolding command_dues
-commands-few [] = omega arith
-commands-few (frame_due due ∷ items) = let rest = commands-few items in omega (arith, rest)
-commands-few (command_due due ∷ items) = let rest = commands-few items in omega (arith, rest)
 
 each-both : (P Q : LinePath → LineCounts → Type 0) (paths : List LinePath) (lines : List LineCounts) →
     Each P paths lines → Each Q paths lines → Each (λ path line. P path line × Q path line) paths lines
@@ -516,40 +423,50 @@ module _ (slow fast : ℕ) (plan : Plan) (keeps : KeepsTime slow fast plan) (cou
   abbrev carries : List Event
   carries = carries_from 0 plan.paths
 
+  abbrev due_frames : (a : ℕ) × Here (frame_dues plan.items) s.ticks (suc s.ticks) a
+  due_frames = due-by s.ticks (frame_dues plan.items) keeps.is_plan.frames
+
+  abbrev due_commands : (b : ℕ) × Here (command_dues plan.items) s.ticks (suc s.ticks) b
+  due_commands = due-by s.ticks (command_dues plan.items) keeps.is_plan.commands
+
   abbrev landed : Counts
-  landed = record s { frames = tries most s.ticks (frame_dues plan.items) s.frames }
+  landed = record s { frames = due_frames.0 }
 
   abbrev asked : Counts
-  asked = record landed { commands = tries most s.ticks (command_dues plan.items) s.commands }
+  asked = record landed { commands = due_commands.0 }
 
   abbrev ticked : Counts
   ticked = record asked { ticks = min (suc count) plan.ticks }
 
-  frames-landed : AllLanded s.ticks (frame_dues plan.items) landed.frames
-  frames-landed =
-      let ticks_is = at_.ticks in
-      lands-next most s.ticks (frame_dues plan.items) s.frames keeps.is_plan.frames
-      (before-below (min count (plan.ticks + 1)) s.ticks (frame_dues plan.items) s.frames (omega (arith, ticks_is))
-      at_.frames)
-      (omega (arith, frames-few plan.items))
+  below : (dues : List ℕ) (a : ℕ) → AreBefore (min count (plan.ticks + 1)) dues a → DueBelow s.ticks dues a
+  below dues a before = let ticks_is = at_.ticks in
+      before-below (min count (plan.ticks + 1)) s.ticks dues a (omega (arith, ticks_is)) before
 
-  commands-landed : AllLanded s.ticks (command_dues plan.items) asked.commands
-  commands-landed =
-      let ticks_is = at_.ticks in
-      lands-next most s.ticks (command_dues plan.items) s.commands keeps.is_plan.commands
-      (before-below (min count (plan.ticks + 1)) s.ticks (command_dues plan.items) s.commands (omega (arith, ticks_is))
-      at_.commands)
-      (omega (arith, commands-few plan.items))
+  accepts-run : run plan s accepts ≡ landed
+  accepts-run =
+      let few = due_frames.1.few in
+      accepts-land plan most s due_frames.0
+      (below-few s.ticks s.frames due_frames.0 (frame_dues plan.items)
+      (below (frame_dues plan.items) s.frames at_.frames) fits.frames due_frames.1)
+      (omega (arith, few, few-frames plan.items)) due_frames.1
+
+  commands-run : run plan landed commands ≡ asked
+  commands-run =
+      let few = due_commands.1.few in
+      commands-land plan most landed due_commands.0
+      (below-few s.ticks s.commands due_commands.0 (command_dues plan.items)
+      (below (command_dues plan.items) s.commands at_.commands) fits.commands due_commands.1)
+      (omega (arith, few, few-commands plan.items)) due_commands.1
 
   tick-is : (step plan asked Tick).counts ≡ ticked
-  tick-is = tick-clock plan slow count asked keeps.lag at_.ticks frames-landed.behind commands-landed.behind at_.lines
+  tick-is = tick-clock plan slow count asked keeps.lag at_.ticks due_frames.1 due_commands.1 at_.lines
       at_.backs
 
   ticked-fits : Fits plan ticked
   ticked-fits =
       let one : Fits plan landed =
-      subst (Fits plan) (accepts-run most plan s) (run-fits slow fast 0 plan keeps.is_plan s accepts fits).0 in
-      let two : Fits plan asked = subst (Fits plan) (commands-run most plan landed)
+      subst (Fits plan) accepts-run (run-fits slow fast 0 plan keeps.is_plan s accepts fits).0 in
+      let two : Fits plan asked = subst (Fits plan) commands-run
       (run-fits slow fast 0 plan keeps.is_plan landed commands one).0 in
       subst (Fits plan) tick-is (step-fits slow fast 0 plan keeps.is_plan asked Tick two).0
 
@@ -597,9 +514,9 @@ module _ (slow fast : ℕ) (plan : Plan) (keeps : KeepsTime slow fast plan) (cou
   unfolding run
   end-is =
       run-append plan s accepts (commands ++ Tick ∷ carries)
-      ∙ ap (λ (c : Counts). run plan c (commands ++ Tick ∷ carries)) (accepts-run most plan s)
+      ∙ ap (λ (c : Counts). run plan c (commands ++ Tick ∷ carries)) accepts-run
       ∙ run-append plan landed commands (Tick ∷ carries)
-      ∙ ap (λ (c : Counts). run plan c (Tick ∷ carries)) (commands-run most plan landed)
+      ∙ ap (λ (c : Counts). run plan c (Tick ∷ carries)) commands-run
       ∙ ap (λ (c : Counts). run plan c carries) tick-is
       ∙ carried.2
       ∙ ap (λ (c : Counts). (take_row plan c).counts) back-is
@@ -663,11 +580,11 @@ module _ (slow fast : ℕ) (plan : Plan) (keeps : KeepsTime slow fast plan) (cou
         frames = subst (AreBefore (min (suc count) (plan.ticks + 1)) (frame_dues plan.items))
             (sym (ap (λ (c : Counts). c.frames) shape))
             (landed-before s.ticks (min (suc count) (plan.ticks + 1)) (frame_dues plan.items) landed.frames tick
-            frames-landed);
+            due_frames.1);
         commands = subst (AreBefore (min (suc count) (plan.ticks + 1)) (command_dues plan.items))
             (sym (ap (λ (c : Counts). c.commands) shape))
             (landed-before s.ticks (min (suc count) (plan.ticks + 1)) (command_dues plan.items) asked.commands tick
-            commands-landed);
+            due_commands.1);
         lines = end-lines;
         rows = end-rows;
         backs = ap (λ (c : Counts). c.backs) shape ∙ ap (λ n. packets_in n) (at_.rows ∙ e);
@@ -703,7 +620,8 @@ module _ (slow fast : ℕ) (plan : Plan) (keeps : KeepsTime slow fast plan) wher
   unfolding after_rounds
   drain-rounds zero some within = refl
   drain-rounds (suc count) some within =
-      drain-turn slow fast 0 plan keeps.is_plan (after_rounds count plan) (clock count).1
+      drain-round plan (after_rounds count plan)
+      (record { slow = slow; fast = fast; slip = 0; is = keeps.is_plan }) (clock count).1
       (rows-left count some (omega (arith, within)))
       ∙ drain-rounds count some (omega (arith, within))
 

@@ -8,8 +8,8 @@ use Rattle.std.proofs.lemmas.List.{drop-append-le}
 use Rattle.law_loss.proofs.SegmentHuntAndRunLaws.{header_at-longer}
 use Rattle.law_model.specs.Common.{head, Confirmed, header_at, confirm_by, confirm_with, hunt_by, hunt_within, hunt}
 use Rattle.law_model.specs.Common.{Extent, extents, is_carried, lies_in, confirmed_in, Piece, idle, client, size_of}
-use Rattle.law_model.specs.Common.{StreamRow, Segment, segments, octets_of_rows, rows_of, Counts, run, Leg, Scenario}
-use Rattle.law_model.specs.Common.{scenario_by, Told}
+use Rattle.law_model.specs.Common.{StreamRow, Segment, segments, octets_of_rows, Counts, run, Leg}
+use Rattle.law_model.specs.Common.{scenario_by}
 use Rattle.std.proofs.lemmas.List.Concat.{flat_map-append}
 use Rattle.law_loss.proofs.SegmentHuntAndRunLaws.{confirmed-stays}
 use Rattle.fate_engine.specs.Common.{row_from, row_at, spoiled_from, spoiled_after, fate_after, fate_in, fate_among}
@@ -20,8 +20,8 @@ use Rattle.fate_engine.proofs.FrameRowAndSegmentLaws.{end_of, with_row, next_seg
 use Rattle.fate_engine.proofs.FrameRowAndSegmentLaws.{size-more, lies_among, lies, tail-before, cut-row}
 use Rattle.law_service.specs.KeptFates.{Keeps}
 use Rattle.law_model.specs.declared.walk_events.Event.{Event}
-use Rattle.law_model.specs.rows.SessionStream.{row_of}
 use Rattle.law_walk.specs.Common.{session_rows, session_pieces, session_of, walk_plan}
+use Rattle.law_walk.proofs.DeliveredFrameCountLaws.{rows-longer}
 use Rattle.law_service.proofs.RepeatedTurnAndDelayLaws.{run-rows}
 
 -- ---- Where a search finds nothing in octets, a place that it finds with more octets behind them has fewer than four of the
@@ -388,22 +388,6 @@ number-keeps pieces rows more i = by (slice_get (extents 0 pieces) i) refl
     by (Some e) there = frame-keeps pieces rows more e (extents-long 0 pieces i e there)
 
 -- ---- More rows of a walk take nothing back.
-rows-longer : (scenario : Scenario) (cells : List (Option Told)) (n more : ℕ) → (rows : List StreamRow) ×
-    (rows_of scenario cells (more + n) ≡ rows_of scenario cells n ++ rows)
-unfolding rows_of
-rows-longer scenario cells n zero = (
-  [],
-  (let e : zero + n ≡ n = omega arith in ap (rows_of scenario cells) e
-      ∙ sym (append-nil (rows_of scenario cells n))),
-)
-rows-longer scenario cells n (suc more) =
-    let (rows, before) = rows-longer scenario cells n more in
-    let e : suc more + n ≡ suc (more + n) = omega arith in (
-      rows ++ row_of scenario cells (more + n) ∷ [],
-      ap (rows_of scenario cells) e ∙ ap (λ l. l ++ row_of scenario cells (more + n) ∷ []) before
-          ∙ append_assoc (rows_of scenario cells n) rows (row_of scenario cells (more + n) ∷ []),
-    )
-
 pub session-keeps : (leg : Leg) (rows later i : ℕ) → rows ≤ later →
     Keeps (fate_at (session_pieces leg) (session_rows leg rows) i)
     (fate_at (session_pieces leg) (session_rows leg later) i)

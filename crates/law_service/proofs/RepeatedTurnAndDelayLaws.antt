@@ -1,30 +1,25 @@
 -- Events that are tried again take all rows of a walk, a leg's walk goes by the clock, and delays change no fate.
-use Rattle.std.proofs.Common.{◌≡◌, ℕ, zero, suc, ◌+◌, ◌*◌, ◌<◌, ◌≤◌, nat_le, nat_lt, ◌&&◌, inl, inr, List, [], ◌∷◌}
-use Rattle.std.proofs.Common.{map, sum, ◌++◌, All, Contains, length, slice_get, Option, Some, None, refl, sym, ◌∙◌, ap}
+use Rattle.std.proofs.Common.{◌≡◌, ℕ, zero, suc, ◌+◌, ◌*◌, ◌<◌, ◌≤◌, inl, inr, List, [], ◌∷◌, map, sum, ◌++◌, All}
+use Rattle.std.proofs.Common.{length, slice_get, Option, Some, None, refl, sym, ◌∙◌, ap}
 use Rattle.std.proofs.Common.{subst, arith, slice_index_or, flat_map}
 use Rattle.std.specs.List.{range_with_len}
-use Rattle.std.proofs.lemmas.Bool.{cases_Bool, cases_lt}
+use Rattle.std.proofs.lemmas.Bool.{cases_lt}
 use Rattle.std.proofs.lemmas.List.{length-map}
 use Rattle.std.proofs.lemmas.List.Elements.{All-head, All-tail}
 use Rattle.std.proofs.lemmas.List.Sums.{sum_by-cons}
-use Rattle.law_model.proofs.ListLaws.{contains-parts}
-use Rattle.law_model.specs.Common.{Container, frame_dues, command_dues, LinePath, LineCounts, Plan, Counts, in_send}
-use Rattle.law_model.specs.Common.{in_receive, in_return, land_due, is_missing, tick_full, tick_held, held, full}
-use Rattle.law_model.specs.Common.{carry_at, pop_lines, take_popped, is_back_full, step, run, round, bound, due_of}
-use Rattle.law_model.specs.Common.{dues_of, sum_delays, Leg, paths_of, scenario_by, IsSound, slip_of, path_of}
+use Rattle.law_model.specs.Common.{Container, LinePath, Plan, Counts, step, run, round, bound, due_of, dues_of}
+use Rattle.law_model.specs.Common.{sum_delays, Leg, paths_of, scenario_by, IsSound, slip_of, path_of}
 use Rattle.law_model.specs.Common.{greatest, least, least_or, Scenario, session_cells, begin}
 use Rattle.law_model.specs.declared.script_types.Item.{Item}
 use Rattle.law_model.specs.declared.walk_events.Event.{Event}
 use Rattle.law_model.specs.declared.walk_events.Event.TheVariants.{Accept, Tick, Carry, Back, Take, Command}
 use Rattle.law_model.specs.declared.window_types.Window.{Window}
-use Rattle.law_model.specs.session.Scenario.{packets_in}
 use Rattle.law_progress.specs.Progress.{IsPlanOf, IsPlan, Fits, made, IsReached, IsPath, AllPaths}
 use Rattle.law_progress.specs.Progress.{IsSound as IsSoundPath}
-use Rattle.law_progress.proofs.EventBoundAndStallCauseLaws.{Kept, NotLanded, accept-kept, command-kept, back-kept}
-use Rattle.law_progress.proofs.EventBoundAndStallCauseLaws.{TickWhy, tick-kept, NoCarry, carry-kept, TakeWhy}
-use Rattle.law_progress.proofs.EventBoundAndStallCauseLaws.{take-kept}
-use Rattle.law_progress.proofs.RoundProgressAndDrainLaws.{Either, run-fits, bounded, round-rises, some_moves}
-use Rattle.law_progress.proofs.RoundProgressAndDrainLaws.{reached-fits, run-append}
+use Rattle.law_progress.proofs.EventOutcomeLaws.{step-gives}
+use Rattle.law_progress.proofs.RisingRoundsLaws.{run-rises}
+use Rattle.law_progress.proofs.RoundProgressAndDrainLaws.{run-fits, bounded, round-rises, some_moves, rounds_of}
+use Rattle.law_progress.proofs.RoundProgressAndDrainLaws.{are-rising, reached-fits, run-append}
 use Rattle.law_walk.specs.Common.{IsWalked, sent_on, walk_plan, CanWalk, session_rows, Numbered, landed_items}
 use Rattle.law_walk.specs.Common.{refusal_at, numbered, session_pieces, report_of, session_of}
 use Rattle.law_walk.proofs.WalkPlanAndPoppedCellLaws.{has-paths, has-plan, sound-walks, has-lines, line-path}
@@ -48,72 +43,21 @@ use Rattle.fate_engine.specs.Common.{later_segments, spoiled_of}
 use Rattle.fate_engine.specs.declared.fate_law.Fate.{Fate}
 
 -- ---- Events that are tried again and again take all rows.
--- ---- an event changes nothing, or adds to the counts and keeps their bounds
-either : (plan : Plan) (s next : Counts) (Why : Type 0) → Kept plan s Why next → Either plan s next
-either plan s next Why kept = elim kept [ inl same ↦ inl same.0 | inr more ↦ inr more ]
-
 -- ---- rows are never given back
 abbrev NoFewer : Counts → Counts → Type 0
 NoFewer s next = s.rows ≤ next.rows
 
-land-rows : (ticks : ℕ) (due : Option ℕ) (s next : Counts) → NoFewer s next →
-    NoFewer s (land_due ticks due s next).counts
-land-rows ticks None s next more = omega arith
-land-rows ticks (Some due) s next more = elim (cases_Bool (nat_lt ticks due)) [
-  | inl e ↦ rw e (omega arith)
-  | inr e ↦ rw e more
-]
-
-full-rows : (found : Option ℕ) (plan : Plan) (s : Counts) → NoFewer s (tick_full found plan s).counts
-full-rows (Some line) plan s = omega arith
-full-rows None plan s = elim (cases_Bool (is_missing plan s)) [ inl e ↦ rw e (omega arith) | inr e ↦ rw e (omega arith) ]
-
-held-rows : (found : Option ℕ) (plan : Plan) (s : Counts) → NoFewer s (tick_held found plan s).counts
-held-rows (Some item) plan s = omega arith
-held-rows None plan s = full-rows (full plan.ticks s.ticks 0 s.lines) plan s
-
-carry-rows : (plan : Plan) (s : Counts) (m : ℕ) (path : Option LinePath) (line : Option LineCounts) →
-    NoFewer s (carry_at plan s m path line).counts
-carry-rows plan s m (Some path) (Some line) =
-    elim (cases_Bool (nat_lt (plan.ticks + path.delay) line.carried)) [
-      | inl e ↦ rw e (omega arith)
-      | inr e ↦ rw e (elim (cases_Bool (nat_lt line.carried plan.ticks && nat_le (in_send plan.ticks s.ticks line) 0)) [
-        | inl f ↦ rw f (omega arith)
-        | inr f ↦ rw f (elim (cases_Bool (nat_le plan.ring (in_receive path line))) [
-          | inl g ↦ rw g (omega arith)
-          | inr g ↦ rw g (omega arith)
-        ])
-      ])
-    ]
-carry-rows plan s m (Some path) None = omega arith
-carry-rows plan s m None line = omega arith
-
-popped-rows : (s : Counts) (lines : List LineCounts) (waiting : Option ℕ) → NoFewer s (take_popped s lines waiting).counts
-popped-rows s lines (Some line) = omega arith
-popped-rows s lines None = omega arith
-
 step-rows : (plan : Plan) (s : Counts) (event : Event) → NoFewer s (step plan s event).counts
-step-rows plan s Accept = land-rows s.ticks (slice_get (frame_dues plan.items) s.frames) s
-    (record s { frames = s.frames + 1 }) (omega arith)
-step-rows plan s Command = land-rows s.ticks (slice_get (command_dues plan.items) s.commands) s
-    (record s { commands = s.commands + 1 }) (omega arith)
-step-rows plan s Tick = elim (cases_Bool (nat_le plan.ticks s.ticks)) [
-  | inl e ↦ rw e (omega arith)
-  | inr e ↦ rw e (held-rows (held s.ticks s.frames s.commands 0 plan.items) plan s)
-]
-step-rows plan s (Carry m) = carry-rows plan s m (slice_get plan.paths m) (slice_get s.lines m)
-step-rows plan s Back = elim (cases_Bool (nat_le (in_return s) 0)) [
-  | inl e ↦ rw e (omega arith)
-  | inr e ↦ rw e (omega arith)
-]
-step-rows plan s Take = elim (cases_Bool (nat_le plan.ticks s.rows)) [
-  | inl e ↦ rw e (omega arith)
-  | inr e ↦ rw e (elim (cases_Bool (is_back_full s)) [
-    | inl f ↦ rw f (omega arith)
-    | inr f ↦ rw f (popped-rows s (pop_lines s.rows 0 plan.paths s.lines).lines
-        (pop_lines s.rows 0 plan.paths s.lines).waiting)
-  ])
-]
+step-rows plan s event = step-gives (λ next. NoFewer s next.counts) plan s event (record {
+  stalls = λ cause. omega arith;
+  accepts = λ due there now. omega arith;
+  commands = λ due there now. omega arith;
+  ticks = λ none. omega arith;
+  carries = λ lines. omega arith;
+  backs = omega arith;
+  waits = λ line. omega arith;
+  takes = omega arith;
+})
 
 pub run-rows : (plan : Plan) (s : Counts) (events : List Event) → NoFewer s (run plan s events)
 unfolding run
@@ -122,42 +66,11 @@ run-rows plan s (event ∷ events) =
     omega (arith, step-rows plan s event, run-rows plan (step plan s event).counts events)
 
 module _ (slow fast slip : ℕ) (plan : Plan) (is : IsPlanOf slow fast slip plan) where
-  any-kept : (s : Counts) (event : Event) → Fits plan s → Either plan s (step plan s event).counts
-  any-kept s Accept fits = either plan s (step plan s Accept).counts
-      (NotLanded s.ticks (slice_get (frame_dues plan.items) s.frames)) (accept-kept plan s fits)
-  any-kept s Command fits = either plan s (step plan s Command).counts
-      (NotLanded s.ticks (slice_get (command_dues plan.items) s.commands)) (command-kept plan s fits)
-  any-kept s Tick fits = either plan s (step plan s Tick).counts (TickWhy plan s) (tick-kept plan s fits)
-  any-kept s (Carry m) fits = either plan s (step plan s (Carry m)).counts (NoCarry plan s m)
-      (carry-kept slow fast slip plan s is fits m)
-  any-kept s Back fits = either plan s (step plan s Back).counts (packets_in s.rows ≤ s.backs) (back-kept plan s fits)
-  any-kept s Take fits = either plan s (step plan s Take).counts (TakeWhy plan s)
-      (take-kept slow fast slip plan s is fits)
-
-  -- as long as no event before it adds anything, an event does what it did at the start
-  run-rises : (s : Counts) (event : Event) (events : List Event) → Fits plan s → Contains events event →
-      made s < made (step plan s event).counts → made s < made (run plan s events)
-  unfolding run
-  run-rises s event [] fits here more = absurd (let inside = here.1 in omega arith)
-  run-rises s event (first ∷ events) fits here more =
-      elim (any-kept s first fits) [
-        | inr (new, up) ↦ let rest = (run-fits slow fast slip plan is (step plan s first).counts events new).1 in
-            omega (arith, up, rest)
-        | inl same ↦ elim (contains-parts first events event here) [
-          | inl e ↦
-              let f : made (step plan s event).counts ≡ made s =
-              subst (λ event. made (step plan s event).counts ≡ made s) e (ap made same) in
-              absurd (omega (arith, f, more))
-          | inr later ↦ subst (λ next. made s < made (run plan next events)) (sym same)
-              (run-rises s event events fits later more)
-        ]
-      ]
-
   pub turn-rises : (s : Counts) (turn : List Event) → Fits plan s → s.rows < plan.ticks → TriesEach plan turn →
       made s < made (run plan s turn)
   turn-rises s turn fits open_ tries =
-      let (event, tried, more) = some_moves slow fast slip plan is s fits open_ in
-      run-rises s event turn fits (tries event tried.1) more
+      let (event, line, more) = some_moves slow fast slip plan is s fits open_ in
+      run-rises (rounds_of plan) (Fits plan) (are-rising slow fast slip plan is) s event turn fits (tries event line) more
 
   no-more : (s : Counts) (events : List Event) → Fits plan s → plan.ticks ≤ s.rows →
       (run plan s events).rows ≡ plan.ticks

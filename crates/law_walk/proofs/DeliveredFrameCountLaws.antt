@@ -353,7 +353,7 @@ module _ (leg : Leg) (s : Counts) (can : CanWalk leg) (walked : IsWalked leg s)
   frames-received n low = (same-frames n low).frames
 
 -- ---- more rows
-rows-longer : (scenario : Scenario) (cells : List (Option Told)) (n more : ℕ) → (rows : List StreamRow) ×
+pub rows-longer : (scenario : Scenario) (cells : List (Option Told)) (n more : ℕ) → (rows : List StreamRow) ×
     (rows_of scenario cells (more + n) ≡ rows_of scenario cells n ++ rows)
 unfolding rows_of
 rows-longer scenario cells n zero = (

@@ -8,17 +8,14 @@ use Rattle.std.proofs.lemmas.Option.{slice_get-map}
 use Rattle.check_nibbles.proofs.CellsInStepLaws.{slice_get-append_seam}
 use Rattle.law_model.specs.Common.{Leg, DueCommand, DueFrame, order_of, offer_of, orders_of, offers_of, scenario_by}
 use Rattle.law_model.specs.Common.{lands_at, comes_at, orders_at, frames_at, Due, frame_due, command_due, dues_of}
-use Rattle.law_model.specs.Common.{frame_dues, command_dues, LinePath, LineCounts, Plan, Counts, land_due, held, full}
-use Rattle.law_model.specs.Common.{is_missing, tick_full, tick_held, tick, in_send, in_receive, carry_on, carry_at}
-use Rattle.law_model.specs.Common.{in_return, take_popped, pop_lines, is_back_full, take_row, step, run, begin}
+use Rattle.law_model.specs.Common.{frame_dues, command_dues, Plan, Counts, held, step, run, begin}
 use Rattle.law_model.specs.Common.{Scenario, steps_in, packets, Told, Source, asked_all, refusal, after, source_at}
 use Rattle.law_model.specs.Common.{Stream, frame_refusal, offered, stream_before, session_cells, frame_of, used_in}
 use Rattle.law_model.specs.declared.script_types.Item.{Item}
 use Rattle.law_model.specs.declared.walk_events.Event.{Event}
-use Rattle.law_model.specs.declared.walk_events.Event.TheVariants.{Accept, Tick, Carry, Back, Take, Command}
-use Rattle.law_model.specs.session.Counts.{back}
 use Rattle.law_loss.proofs.ClientFrameExtentLaws.{and_false, filter-skip}
 use Rattle.law_loss.proofs.ItemDueTicksLaws.{order_dues, offer_dues}
+use Rattle.law_progress.proofs.EventOutcomeLaws.{step-gives}
 use Rattle.law_walk.specs.Common.{walk_plan, IsWalked, Numbered, landed_scenario, IsOfferAt, IsOrderAt, delivered_of}
 use Rattle.law_walk.specs.Common.{is_client, with_if, landed_from, landed_items, refusal_at, refused_by}
 use Rattle.law_walk.specs.Common.{refusals_among, refusals_of, IsPlaced, is_accepted_frame, is_accepted_command}
@@ -107,85 +104,23 @@ ahead-next items ticks frames commands none = record {
 }
 
 -- ---- event by event
-ahead-land : (plan : Plan) (due : Option ℕ) (s next : Counts) → IsAhead plan s → IsAhead plan next →
-    IsAhead plan (land_due s.ticks due s next).counts
-ahead-land plan None s next here there = here
-ahead-land plan (Some due) s next here there =
-    elim (cases_Bool (nat_lt s.ticks due)) [ inl e ↦ rw e here | inr e ↦ rw e there ]
-
-ahead-full : (plan : Plan) (line : Option ℕ) (s : Counts) → IsAhead plan s →
-    IsAhead plan (record s { ticks = s.ticks + 1 }) → IsAhead plan (tick_full line plan s).counts
-ahead-full plan (Some line) s here there = here
-ahead-full plan None s here there = elim (cases_Bool (is_missing plan s)) [ inl e ↦ rw e here | inr e ↦ rw e there ]
-
-ahead-held : (plan : Plan) (item : Option ℕ) (s : Counts) → held s.ticks s.frames s.commands 0 plan.items ≡ item →
-    IsAhead plan s → IsAhead plan (tick_held item plan s).counts
-ahead-held plan (Some item) s e here = here
-ahead-held plan None s e here =
-    ahead-full plan (full plan.ticks s.ticks 0 s.lines) s here (ahead-next plan.items s.ticks s.frames s.commands e)
-
-ahead-tick : (plan : Plan) (s : Counts) → IsAhead plan s → IsAhead plan (tick plan s).counts
-ahead-tick plan s here =
-    elim (cases_Bool (nat_le plan.ticks s.ticks)) [
-      | inl e ↦ rw e here
-      | inr e ↦ rw e (ahead-held plan (held s.ticks s.frames s.commands 0 plan.items) s refl here)
-    ]
-
-ahead-on : (plan : Plan) (s : Counts) (m : ℕ) (path : LinePath) (line : LineCounts) → IsAhead plan s →
-    IsAhead plan (carry_on plan s m path line).counts
-ahead-on plan s m path line here =
-    elim (cases_Bool (nat_lt (plan.ticks + path.delay) line.carried)) [
-      | inl e ↦ rw e here
-      | inr e ↦ rw e (elim (cases_Bool (nat_lt line.carried plan.ticks && nat_le (in_send plan.ticks s.ticks line) 0)) [
-        | inl f ↦ rw f here
-        | inr f ↦ rw f (elim (cases_Bool (nat_le plan.ring (in_receive path line))) [
-          | inl g ↦ rw g here
-          | inr g ↦ rw g here
-        ])
-      ])
-    ]
-
-ahead-carry : (plan : Plan) (s : Counts) (m : ℕ) (path : Option LinePath) (line : Option LineCounts) → IsAhead plan s →
-    IsAhead plan (carry_at plan s m path line).counts
-ahead-carry plan s m (Some path) (Some line) here = ahead-on plan s m path line here
-ahead-carry plan s m (Some path) None here = here
-ahead-carry plan s m None line here = here
-
-ahead-back : (plan : Plan) (s : Counts) → IsAhead plan s → IsAhead plan (back s).counts
-ahead-back plan s here = elim (cases_Bool (nat_le (in_return s) 0)) [ inl e ↦ rw e here | inr e ↦ rw e here ]
-
-ahead-popped : (plan : Plan) (s : Counts) (lines : List LineCounts) (waiting : Option ℕ) → IsAhead plan s →
-    IsAhead plan (take_popped s lines waiting).counts
-ahead-popped plan s lines (Some line) here = here
-ahead-popped plan s lines None here = here
-
-ahead-take : (plan : Plan) (s : Counts) → IsAhead plan s → IsAhead plan (take_row plan s).counts
-ahead-take plan s here =
-    elim (cases_Bool (nat_le plan.ticks s.rows)) [
-      | inl e ↦ rw e here
-      | inr e ↦ rw e (elim (cases_Bool (is_back_full s)) [
-        | inl f ↦ rw f here
-        | inr f ↦ rw f (ahead-popped plan s (pop_lines s.rows 0 plan.paths s.lines).lines
-            (pop_lines s.rows 0 plan.paths s.lines).waiting here)
-      ])
-    ]
-
 ahead-step : (plan : Plan) (s : Counts) (event : Event) → IsAhead plan s → IsAhead plan (step plan s event).counts
-ahead-step plan s Accept here =
-    ahead-land plan (slice_get (frame_dues plan.items) s.frames) s (record s { frames = s.frames + 1 }) here (record {
-      of_frames = λ k due low there. here.of_frames k due (omega arith) there;
-      of_commands = here.of_commands;
-    })
-ahead-step plan s Command here =
-    ahead-land plan (slice_get (command_dues plan.items) s.commands) s (record s { commands = s.commands + 1 }) here
-    (record {
-      of_frames = here.of_frames;
-      of_commands = λ k due low there. here.of_commands k due (omega arith) there;
-    })
-ahead-step plan s Tick here = ahead-tick plan s here
-ahead-step plan s (Carry m) here = ahead-carry plan s m (slice_get plan.paths m) (slice_get s.lines m) here
-ahead-step plan s Back here = ahead-back plan s here
-ahead-step plan s Take here = ahead-take plan s here
+ahead-step plan s event here = step-gives (λ next. IsAhead plan next.counts) plan s event (record {
+  stalls = λ cause. here;
+  accepts = λ due there now. record {
+    of_frames = λ k due low there. here.of_frames k due (omega arith) there;
+    of_commands = here.of_commands;
+  };
+  commands = λ due there now. record {
+    of_frames = here.of_frames;
+    of_commands = λ k due low there. here.of_commands k due (omega arith) there;
+  };
+  ticks = ahead-next plan.items s.ticks s.frames s.commands;
+  carries = λ lines. here;
+  backs = here;
+  waits = λ line. here;
+  takes = here;
+})
 
 ahead-run : (plan : Plan) (s : Counts) (events : List Event) → IsAhead plan s → IsAhead plan (run plan s events)
 unfolding run
@@ -199,6 +134,24 @@ walked-ahead leg s walked =
       of_frames = λ k due low there. omega arith;
       of_commands = λ k due low there. omega arith;
     }))
+
+-- ---- no more land than there are
+if-few : (there : Bool) (item : Numbered) (items : List Numbered) → length (with_if there item items) ≤ suc (length items)
+if-few true item items = omega arith
+if-few false item items = omega arith
+
+pub landed-few : (a b i : ℕ) (items : List Item) → length (landed_from a b i items) ≤ length items
+unfolding landed_from
+landed-few a b i [] = omega arith
+landed-few a b i (item ∷ items) =
+    elim (cases_Bool (is_client item.kind)) [
+      | inl client ↦ rw client
+          (let own = if-few (nat_lt 0 a) (record { number = i; item = item }) (landed_from (a - 1) b (suc i) items) in
+          let rest = landed-few (a - 1) b (suc i) items in omega (arith, own, rest))
+      | inr other ↦ rw other
+          (let own = if-few (nat_lt 0 b) (record { number = i; item = item }) (landed_from a (b - 1) (suc i) items) in
+          let rest = landed-few a (b - 1) (suc i) items in omega (arith, own, rest))
+    ]
 
 -- ---- items as offers and orders
 pub frame-dues : (items : List Item) →

@@ -7,7 +7,7 @@ use Rattle.law_model.specs.Common.{Container, Leg, IsSound, slip_of, IsLine, Sce
 use Rattle.law_model.specs.Common.{path_of, paths_of, greatest_slip, Cell, cells, verdict, carried_by, packets}
 use Rattle.law_model.specs.Common.{steps_in, Told, told_in, after, stream_before, cells_before, payload_of, row_at}
 use Rattle.law_model.specs.Common.{is_whole_row, frame_of, LinePath, LineCounts, Counts, step, run, begin, drain}
-use Rattle.law_model.specs.Common.{all_cells, carriers_at, known_lines}
+use Rattle.law_model.specs.Common.{all_cells, carriers_at, known_lines, FitsLag}
 use Rattle.law_model.specs.declared.window_types.Window.{Window}
 use Rattle.law_model.specs.members.Damage.{carried}
 use Rattle.law_progress.specs.Progress.{IsPlan, Each, LineFits, Fits}
@@ -78,12 +78,13 @@ own-at (windows ∷ lists) zero own here = (omega arith, cc)
 own-at (windows ∷ lists) (suc m) own here = let rest = own-at lists m own here in
     (let low = rest.0 in omega arith, rest.1)
 
-pub has-plan : (leg : Leg) → CanWalk leg → IsPlan (walk_plan leg)
-has-plan leg can =
+pub plan-with : (leg : Leg) (lag : ℕ) → CanWalk leg → FitsLag (record leg.config { lag = lag }) →
+    IsPlan (record (walk_plan leg) { lag = lag })
+plan-with leg lag can fits =
     let scenario : Scenario = scenario_by leg in
     let some = can.some in
     let size = can.delays in
-    can_run-plan leg.config leg.items (sent_of scenario) (record {
+    can_run-plan (record leg.config { lag = lag }) leg.items (sent_of scenario) (record {
       some_line = omega arith;
       sent_all = sent-by leg.config.ticks (sent_on scenario) leg.config.windows leg.config.delays 0 can.delays
           (λ m own here.
@@ -97,8 +98,11 @@ has-plan leg can =
       commands = can.commands;
       some_room = can.some_room;
       ring = can.ring;
-      lag = can.lag;
+      lag = fits;
     })
+
+pub has-plan : (leg : Leg) → CanWalk leg → IsPlan (walk_plan leg)
+has-plan leg can = plan-with leg leg.config.lag can can.lag
 
 -- ---- the path of a line
 path-at : (sent : ℕ → List Container) (lists : List (List Window)) (delays : List ℕ) (from m : ℕ) →

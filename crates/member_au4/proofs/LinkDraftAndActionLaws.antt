@@ -20,8 +20,8 @@ use Rattle.text_lines.specs.Fields.{within, fields_fault}
 use Rattle.text_lines.specs.LanguageTable.{next_by, said_in, formed}
 use Rattle.text_lines.proofs.TextLineAndWordLaws.{where_none, number_ok, one_field, two_fields}
 use Rattle.text_lines.proofs.LineLanguageAndTableLaws.{IsPlaced, IsSound, Keeps, said_valid}
-use Rattle.member_au4.specs.declared.au4_link.au4_keyword.Keyword.{Keyword}
-use Rattle.member_au4.specs.declared.au4_link.au4_draft.Draft.{Draft}
+use Rattle.member_au4.specs.declared.au4_link.au4_keyword.Au4Keyword.{Au4Keyword}
+use Rattle.member_au4.specs.declared.au4_link.au4_draft.Au4Draft.{Au4Draft}
 use Rattle.member_au4.specs.au4_link.Link.{link_in, IsLink, link_of}
 use Rattle.std.specs.Prelude.{Ok}
 use Rattle.std.specs.List.{range_with_len}
@@ -34,7 +34,7 @@ use Rattle.member_au4.specs.declared.au4_link.au4_draft.Link.{Link}
 use Rattle.member_au4.specs.au4_link.Vcs.{rising, vc_of, first_vcs}
 use Rattle.member_au4.specs.au4_link.LinkReportText.{vc_texts, end_text, cuts, back_of, link_text}
 use Rattle.member_au4.specs.au4_link.Carried.{link_vcs, link_frames, carried_text}
-use Rattle.member_au4.specs.declared.au4_link.au4_keyword.Keyword.TheVariants as word
+use Rattle.member_au4.specs.declared.au4_link.au4_keyword.Au4Keyword.TheVariants as word
 
 -- ---- Which actions are accepted: three Keep behind one that isn't, or none before.
 -- an action that a frame may have
@@ -130,7 +130,7 @@ length-kept actions frame inside =
 
 -- ---- a draft
 -- what is said where the next line may stand from a place on
-pub record IsDraft (next : ℕ) (d : Draft) : Type 0 where
+pub record IsDraft (next : ℕ) (d : Au4Draft) : Type 0 where
   pub start : d.start ≤ 782
   pub none : next ≤ 1 → d.actions ≡ []
   pub some : 2 ≤ next → 1 ≤ d.frames
@@ -143,7 +143,7 @@ far : (actions : List Action) (frame : ℕ) → least_next actions ≤ frame →
 far [] frame least = omega arith
 far (a ∷ actions) frame least = omega (arith, least)
 
-act-more : (next : ℕ) (d : Draft) (frame : ℕ) (a : Action) → IsDraft next d → 2 ≤ next → frame < d.frames
+act-more : (next : ℕ) (d : Au4Draft) (frame : ℕ) (a : Action) → IsDraft next d → 2 ≤ next → frame < d.frames
     → least_next d.actions ≤ frame → IsAct frame a → IsDraft 2 (with_action d frame a)
 act-more next d frame a is late below least act =
     let kept = d.actions ++ replicate (frame - length d.actions) Keep in
@@ -161,7 +161,7 @@ act-more next d frame a is late below least act =
     }
 
 -- a frame that moves
-move-more : (next : ℕ) (d : Draft) (ws : List (List ℕ)) (a : Action) → IsDraft next d → 2 ≤ next → length ws ≡ 1
+move-more : (next : ℕ) (d : Au4Draft) (ws : List (List ℕ)) (a : Action) → IsDraft next d → 2 ≤ next → length ws ≡ 1
     → fields_fault (within 1 (d.frames - 1) ∷ []) 2 0 ws ≡ None → too_early d ws ≡ None
     → (1 ≤ number_at 0 ws → IsAct (number_at 0 ws) a) → IsDraft 2 (with_action d (number_at 0 ws) a)
 move-more next d ws a is late size none early act =
@@ -183,7 +183,7 @@ draft-first = record {
   accepted = accepted-none;
 }
 
-draft-after : (next : ℕ) (d : Draft) (k : Keyword) (ws : List (List ℕ)) → IsDraft next d → IsPlaced 2 next (place k)
+draft-after : (next : ℕ) (d : Au4Draft) (k : Au4Keyword) (ws : List (List ℕ)) → IsDraft next d → IsPlaced 2 next (place k)
     → IsSound link_table d k ws → IsDraft (next_by link_table k) (after d k ws)
 draft-after next d word.Start ws is at fine =
     let first : next ≡ 0 = at.early (omega arith) in
@@ -226,7 +226,7 @@ pub link-keeps : Keeps link_table IsDraft
 link-keeps = record { first = draft-first; after = draft-after }
 
 -- ---- a link
-pub link-whole : (next : ℕ) (d : Draft) → 2 ≤ next → IsDraft next d → IsLink (link_in d)
+pub link-whole : (next : ℕ) (d : Au4Draft) → 2 ≤ next → IsDraft next d → IsLink (link_in d)
 link-whole next d late is =
     let size = length-kept d.actions d.frames is.inside in
     let some = is.some late in
@@ -244,10 +244,10 @@ pub valid_link : (text : List ℕ) (link : Link) → link_of text ≡ Ok link �
 valid_link text link said = said_valid link_table IsDraft link-keeps link_in IsLink link-whole text link said
 
 -- the actions of what its lines say are of its frames
-pub draft-inside : (text : List ℕ) (d : Draft) → said_in link_table text ≡ Ok d → length d.actions ≤ d.frames
+pub draft-inside : (text : List ℕ) (d : Au4Draft) → said_in link_table text ≡ Ok d → length d.actions ≤ d.frames
 draft-inside text d said =
-    said_valid link_table IsDraft link-keeps (λ (d : Draft). d) (λ (d : Draft). length d.actions ≤ d.frames)
-    (λ next d late is. is.inside) text d (ap (formed (λ (d : Draft). d)) said)
+    said_valid link_table IsDraft link-keeps (λ (d : Au4Draft). d) (λ (d : Au4Draft). length d.actions ≤ d.frames)
+    (λ next d late is. is.inside) text d (ap (formed (λ (d : Au4Draft). d)) said)
 
 -- ---- numbered VC-4s
 length-rising : (count n : ℕ) → length (rising count n) ≡ count

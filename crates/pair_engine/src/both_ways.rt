@@ -89,8 +89,8 @@ impl Pair {
         ensures fits { IsPair self.now.there self.now.back }
         ensures walked { IsPairWalked self.now.there self.now.back self.now.counts }
     {
-        self.there.live.core.taken() >= self.there.script.config.ticks
-            && self.back.live.core.taken() >= self.back.script.config.ticks
+        self.there.live.core.sink().taken() >= self.there.script.config.ticks
+            && self.back.live.core.sink().taken() >= self.back.script.config.ticks
     }
 
     /// Makes a round but for its rows: lands items of each way until one stalls, and tries a tick and a carry

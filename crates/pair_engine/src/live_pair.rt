@@ -186,7 +186,7 @@ impl LivePair {
     pub fn ticks(&self) -> u32
         ensures { result ≡ (walking_counts self.now).there.ticks }
     {
-        self.there.core.ticks()
+        self.there.core.source().core().ticks()
     }
 
     /// How many frames of a way wait, at most 256: those that were accepted and of which no octet is made.

@@ -80,12 +80,12 @@ impl LiveWay {
         ensures { result ≡ missing_at self.now.lag (way_walked (walking_of self.now)) }
     {
         let lag = u32::from(self.lag);
-        let ticks = self.core.ticks();
+        let ticks = self.core.source().core().ticks();
         if !tells_next(lag, ticks) {
             return None;
         }
         let packet = ticks / 16 - lag;
-        if u64::from(self.core.taken()) <= 16 * u64::from(packet) + 23 {
+        if u64::from(self.core.sink().taken()) <= 16 * u64::from(packet) + 23 {
             Some(StallCause::BackMissing { packet })
         } else {
             None
@@ -100,7 +100,7 @@ impl LiveWay {
         ensures rest { let tells = tells_next self.old.lag self.old.core.source.core.ticks in
             self.new ≡ record self.old { said = left_untold tells self.old.said } }
     {
-        if tells_next(u32::from(self.lag), self.core.ticks()) {
+        if tells_next(u32::from(self.lag), self.core.source().core().ticks()) {
             self.said.tell()
         } else {
             None

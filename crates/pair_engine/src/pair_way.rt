@@ -73,7 +73,7 @@ impl PairWay {
         let Some(next) = next_item(&self.landing) else {
             return Moved::Stalled(StallCause::Done);
         };
-        if self.live.core.ticks() < next.due {
+        if self.live.core.source().core().ticks() < next.due {
             return Moved::Stalled(StallCause::NotDue { due: next.due });
         }
         let lent = self.script.items.lend(next.number, &mut self.room);
@@ -101,7 +101,7 @@ impl PairWay {
         ensures { (other : Script) → result
             ≡ done_at (walk_plan (way_of self.now.script other)) (way_counts self.now) }
     {
-        if self.live.core.ticks() >= self.script.config.ticks {
+        if self.live.core.source().core().ticks() >= self.script.config.ticks {
             Some(StallCause::Done)
         } else {
             None
@@ -113,7 +113,7 @@ impl PairWay {
         ensures { (other : Script) → LandedAs (way_of self.now.script other) self.now → result
             ≡ held_at (walk_plan (way_of self.now.script other)) (way_counts self.now) }
     {
-        match self.landing.held(self.live.core.ticks()) {
+        match self.landing.held(self.live.core.source().core().ticks()) {
             Some(item) => Some(StallCause::Held { item }),
             None => None,
         }

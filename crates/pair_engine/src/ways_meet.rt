@@ -72,10 +72,10 @@ pub(crate) fn tick_both(there: &mut LiveWay, back: &mut LiveWay)
 {
     let of_there = there.tell_next();
     let of_back = back.tell_next();
-    let ticks = there.core.ticks();
+    let ticks = there.core.source().core().ticks();
     let there_took = there.core.make(of_back);
     there.last = next_note(ticks, there_took, there.last);
-    let ticks = back.core.ticks();
+    let ticks = back.core.source().core().ticks();
     let back_took = back.core.make(of_there);
     back.last = next_note(ticks, back_took, back.last);
 }
@@ -100,8 +100,8 @@ pub(crate) fn take_way_row<F: FrameOut>(
     ensures own { Keeps (walking_of own.old) (walking_of own.new) }
     ensures other { Keeps (walking_of other.old) (walking_of other.new) }
 {
-    let row = own.core.taken();
-    if row >= own.core.total_ticks() {
+    let row = own.core.sink().taken();
+    if row >= own.core.source().total_ticks() {
         return Moved::Stalled(StallCause::Done);
     }
     match own.core.take(out) {

@@ -11,7 +11,5 @@ pub mod PairStandLaws
 pub mod WayLineLaws
 pub mod PairAnswerGrowthLaws
 pub mod PairConversationLaws
-pub mod PairSaidByLineLaws
-pub mod PairTalkerLineLaws
-pub mod PairTalkerReplyLaws
+pub mod PairByLinesLaws
 pub mod PairWayHeadlineLaws

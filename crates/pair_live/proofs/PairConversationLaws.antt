@@ -16,8 +16,8 @@ use Rattle.command_parts.specs.Dialogue.{talk_of}
 use Rattle.command_parts.specs.Talk.{Said as TalkSaid}
 use Rattle.command_parts.proofs.TalkCourseOverOctetsLaws.{StandsByLines, course_heard_all, course_parted}
 use Rattle.walk_live.specs.declared.asked.Asked.{Asked}
-use Rattle.pair_live.specs.PairDialogue.{line_answered, lines_answered, lines_last, pair_dialogue, live_pair_last}
-use Rattle.pair_live.specs.PairDialogue.{live_pair_reply, live_pair_reply_by}
+use Rattle.walk_live.specs.LiveTexts.{reply_by}
+use Rattle.pair_live.specs.PairDialogue.{line_answered, lines_answered, lines_last, note_at, pair_dialogue}
 use Rattle.pair_live.specs.PairHeadline.{IsLivePairHeadline, IsPairWalkOf}
 use Rattle.pair_live.specs.PairLines.{BothLive, PairSaid, PairWrong, back_config, nothing_said, pair_line_fault}
 use Rattle.pair_live.specs.PairLines.{pair_opening_fault, there_config}
@@ -159,7 +159,7 @@ record IsReplied (found : Option PairWrong) (given text : List ℕ) : Type 0 whe
   none : found ≡ None
   is : given ≡ text
 
-replied : (n : ℕ) (found : Option PairWrong) (given text : List ℕ) → live_pair_reply_by n found given ≡ Ok text →
+replied : (n : ℕ) (found : Option PairWrong) (given text : List ℕ) → reply_by (note_at n found) given ≡ Ok text →
     IsReplied found given text
 replied n None given text is = record { none = refl; is = cc }
 replied n (Some wrong) given text is = absurd cc
@@ -167,7 +167,7 @@ replied n (Some wrong) given text is = absurd cc
 pub spoken_more : (asked : Asked) → StandsByLines (IsSpoken asked)
 spoken_more asked heard line text spoken left is =
     let ls : List (List ℕ) = heard.lines in
-    let reply : live_pair_reply asked ls line ≡ Ok text =
+    let reply : (pair_dialogue asked).reply ls line ≡ Ok text =
     sym (ap (λ (d : Dialogue). d.reply ls line) spoken.dialogue) ∙ is in
     let parts = replied (length ls + 1) (pair_line_fault (pair_said_in ls) (words line)) (line_answered asked ls line)
     text reply in
@@ -216,7 +216,7 @@ headline_at : (asked : Asked) (text : List ℕ) (now : Heard) → IsSpoken asked
     (parting now (last_reply now)).end ≡ None → IsLivePairHeadline asked text (parting now (last_reply now)).text
 headline_at asked text now spoken are none =
     let parted = has_parted now (last_reply now) none in
-    let last : live_pair_last now.lines ≡ Ok parted.text =
+    let last : (pair_dialogue asked).last now.lines ≡ Ok parted.text =
     sym (ap (λ (d : Dialogue). d.last now.lines) spoken.dialogue) ∙ parted.is in
     let whole = replied (length now.lines + 1) (pair_opening_fault (pair_said_in now.lines)) (lines_last now.lines)
     parted.text last in

@@ -1,11 +1,9 @@
 -- What a reader of live lines of both ways keeps and tells stands for what these lines say.
-use Rattle.std.proofs.Common.{◌≡◌, ◌≢◌, ◌∙◌, ℕ, ◌+◌, ◌==◌, Bool, true, false, List, [], ◌∷◌, length, ap, ap₂}
-use Rattle.std.proofs.Common.{sym, subst, refl, arith, inr, Option, None, Some, Result, Ok, Err, IfErr}
-use Rattle.std.proofs.Common.{option_map, is_none, if◌then◌else◌, not}
+use Rattle.std.proofs.Common.{◌≡◌, ◌∙◌, ℕ, ◌+◌, Bool, true, false, List, [], ◌∷◌, ap, ap₂}
+use Rattle.std.proofs.Common.{sym, subst, refl, inr, Option, None, Some, option_map, is_none, if◌then◌else◌}
 use Rattle.std.specs.Prelude.{IsSome, IfSome, unwrap_or}
 use Rattle.std.specs.Option.{option_or}
-use Rattle.std.proofs.lemmas.Bool.Decides.{nat_tests}
-use Rattle.text_lines.specs.WordsOfLine.{word_at, is_skipped, number_of}
+use Rattle.text_lines.specs.WordsOfLine.{word_at, number_of}
 use Rattle.text_lines.specs.Fields.{where_true}
 use Rattle.text_lines.proofs.TextLineAndWordLaws.{or_none}
 use Rattle.law_model.specs.declared.script_types.Config.{Config}
@@ -18,20 +16,18 @@ use Rattle.text_scripts.specs.script_read.Script.{missing_line, script_in}
 use Rattle.text_scripts.specs.script_read.ScriptInPieces.{next_number, drafted, IsUntested}
 use Rattle.law_pair.specs.declared.pair_events.Way.{Way}
 use Rattle.law_pair.specs.declared.pair_events.Way.TheVariants.{There, Back}
-use Rattle.law_live.specs.Common.{PairSaying, live_after, opened, passes, both_pass}
+use Rattle.law_live.specs.Common.{Live, PairSaying, config_on, live_after, opened, passes, both_pass}
 use Rattle.text_live.specs.declared.live_keyword.LiveKeyword.{LiveKeyword}
 use Rattle.text_live.specs.declared.live_keyword.LiveKeyword.TheVariants as word
-use Rattle.text_live.specs.declared.live_keyword.FirstWord.{FirstWord}
 use Rattle.text_live.specs.declared.live_keyword.FirstWord.TheVariants as first
-use Rattle.text_live.specs.declared.live_fault.LiveLineFault.{LiveLineFault}
 use Rattle.text_live.specs.declared.live_line.LiveLine.{LiveLine}
 use Rattle.text_live.specs.declared.read_live_line.LiveState.{LiveState}
-use Rattle.text_live.specs.LiveLines.{first_of, value_fault, live_said, happens as one_happens}
+use Rattle.text_live.specs.LiveLines.{value_fault, live_said, happens as one_happens}
 use Rattle.text_live.specs.LiveReaderStands.{Keeps, Reads, IsLiveLine, told_line}
 use Rattle.text_live.specs.declared.live_line.LiveLine.TheVariants as one_line
-use Rattle.text_live.proofs.LiveReaderStateLaws.{one_fine}
-use Rattle.pair_walk.specs.declared.pair_script.script_pair.PairFault.{PairFault}
-use Rattle.pair_walk.specs.pair_script.PairOfText.{limits_fault}
+use Rattle.text_live.proofs.LiveReaderStateLaws.{by_keyword, one_fine}
+use Rattle.text_pairs.specs.declared.script_pair.PairFault.{PairFault}
+use Rattle.text_pairs.specs.PairOfText.{limits_fault}
 use Rattle.pair_live.specs.declared.live_pair_fault.PairLineFault.{PairLineFault}
 use Rattle.pair_live.specs.declared.live_pair_fault.PairLineFault.TheVariants as line_wrong
 use Rattle.pair_live.specs.declared.live_pair_fault.LivePairFault.{LivePairFault}
@@ -41,7 +37,7 @@ use Rattle.pair_live.specs.declared.live_pair_line.LivePairLine.TheVariants as l
 use Rattle.pair_live.specs.declared.read_pair_line.BothStates.{BothStates}
 use Rattle.pair_live.specs.declared.live_pair_reader.LivePairReader.{LivePairReader}
 use Rattle.pair_live.specs.PairLines.{BothLive, PairSaid, PairWrong, of_script, of_limits, of_live, undivided}
-use Rattle.pair_live.specs.PairLines.{PairTold, nothing, happens, there_config, back_config, config_in, live_on}
+use Rattle.pair_live.specs.PairLines.{nothing, happens, there_config, back_config, config_in, live_on}
 use Rattle.pair_live.specs.PairLines.{pair_divides, settings_pair, opening_by, pair_opening_fault}
 use Rattle.pair_live.specs.PairLines.{both_or, both_now, both_after, way_named, way_said, way_fault, way_line_fault}
 use Rattle.pair_live.specs.PairLines.{pass_fault, is_pass, pair_rest_fault, pair_fault_by, pair_line_fault}
@@ -51,60 +47,46 @@ use Rattle.pair_live.specs.PairReaderStands.{KeepsBoth, KeepsPair, ReadsBoth, Is
 use Rattle.pair_live.specs.PairReaderStands.{ReadsPairLine, StopsPair, HandsOutBoth, SaysPair, SaysLive, SaysSettings}
 use Rattle.pair_live.specs.PairReaderStands.{pair_failure, pair_number, pair_frame, pair_opened, told_pair_line}
 use Rattle.pair_live.specs.PairReaderStands.{told_of_way}
-use Rattle.pair_live.proofs.PairLineSayingsLaws.{after_there, after_back, after_pass}
-use Rattle.pair_live.proofs.PairLineSayingsLaws.{stays_fault, stays_after}
+use Rattle.pair_live.proofs.PairLineSayingsLaws.{after_on, after_pass, after_way, stays_after, stays_fault}
 
--- ---- A line by its first word.
-abbrev fault_if : PairSaid → List (List ℕ) → Bool → Option PairWrong
-fault_if s ws skipped = if skipped then None else pair_fault_by s ws (first_of (word_at 0 ws))
-
-abbrev told_if : List (List ℕ) → Bool → PairTold
-told_if ws skipped = if skipped then nothing else pair_told_by ws (first_of (word_at 0 ws))
-
-fault_first : (s : PairSaid) (ws : List (List ℕ)) (f : FirstWord) → pair_divides s ws ≡ false →
-    is_skipped ws ≡ false → first_of (word_at 0 ws) ≡ f → pair_line_fault s ws ≡ pair_fault_by s ws f
-fault_first s ws f stays said is = stays_fault s ws stays ∙ ap (fault_if s ws) said ∙ ap (pair_fault_by s ws) is
-
-told_first : (ws : List (List ℕ)) (f : FirstWord) → is_skipped ws ≡ false → first_of (word_at 0 ws) ≡ f →
-    pair_told ws ≡ pair_told_by ws f
-told_first ws f said is = ap (told_if ws) said ∙ ap (pair_told_by ws) is
-
--- ---- a live line
+-- ---- A live line.
 abbrev live_with : PairSaid → LiveKeyword → List (List ℕ) → Option PairWrong → Option PairWrong
 live_with s k ws opening = option_or opening (option_map of_live (pair_rest_fault s k ws))
 
 live_fault : (s : PairSaid) (ws rest : List (List ℕ)) (k : LiveKeyword) → pair_divides s ws ≡ false →
     IsLiveLine ws k rest → pair_line_fault s ws ≡ live_with s k rest (pair_opening_fault s)
 live_fault s ws rest k stays is =
-    fault_first s ws (first.Live k) stays is.said is.first
+    stays_fault s ws stays ∙ by_keyword None (pair_fault_by s ws) ws rest k is
     ∙ ap (λ (ws : List (List ℕ)). live_with s k ws (pair_opening_fault s)) is.others
 
 live_told_by : (ws rest : List (List ℕ)) (k : LiveKeyword) → IsLiveLine ws k rest →
     pair_told ws ≡ happens (pair_live_told k rest)
 live_told_by ws rest k is =
-    told_first ws (first.Live k) is.said is.first ∙ ap (λ (ws : List (List ℕ)). happens (pair_live_told k ws)) is.others
+    by_keyword nothing (pair_told_by ws) ws rest k is
+    ∙ ap (λ (ws : List (List ℕ)). happens (pair_live_told k ws)) is.others
 
 live_after_by : (n : ℕ) (s : PairSaid) (ws rest : List (List ℕ)) (k : LiveKeyword) → pair_divides s ws ≡ false →
     IsLiveLine ws k rest → pair_line_after n s ws ≡ pair_with s (pair_live_told k rest)
 live_after_by n s ws rest k stays is = stays_after n s ws stays ∙ ap (pair_said_with n s ws) (live_told_by ws rest k is)
 
 pub opening_stops : (n : ℕ) (s : PairSaid) (ws rest : List (List ℕ)) (k : LiveKeyword) (f : LivePairFault) →
-    pair_divides s ws ≡ false → IsLiveLine ws k rest → IsPairToldAt n (pair_opening_fault s) f →
-    IsPairToldAt n (pair_line_fault s ws) f
-opening_stops n s ws rest k f stays is told = record {
-  wrong = told.wrong;
-  fails = live_fault s ws rest k stays is ∙ ap (live_with s k rest) told.fails;
-  is = told.is;
-}
+    pair_divides s ws ≡ false → IsLiveLine ws k rest → IsPairToldAt n (pair_opening_fault s) f → StopsPair n s ws f
+opening_stops n s ws rest k f stays is told =
+    inr (record {
+      wrong = told.wrong;
+      fails = live_fault s ws rest k stays is ∙ ap (live_with s k rest) told.fails;
+      is = told.is;
+    })
 
 pub rest_stops : (n : ℕ) (s : PairSaid) (ws rest : List (List ℕ)) (k : LiveKeyword) (f : PairLineFault) →
     pair_divides s ws ≡ false → IsLiveLine ws k rest → pair_opening_fault s ≡ None →
-    pair_rest_fault s k rest ≡ Some f → IsPairToldAt n (pair_line_fault s ws) (text_wrong.Line n f)
-rest_stops n s ws rest k f stays is none found = record {
-  wrong = of_live f;
-  fails = live_fault s ws rest k stays is ∙ ap (live_with s k rest) none ∙ ap (option_map of_live) found;
-  is = refl;
-}
+    pair_rest_fault s k rest ≡ Some f → StopsPair n s ws (text_wrong.Line n f)
+rest_stops n s ws rest k f stays is none found =
+    inr (record {
+      wrong = of_live f;
+      fails = live_fault s ws rest k stays is ∙ ap (live_with s k rest) none ∙ ap (option_map of_live) found;
+      is = refl;
+    })
 
 -- ---- Where the reader stands.
 pub begun_says : (before : Option Script) (settings : Option ScriptReader) (states : BothStates) (s : PairSaid) →
@@ -112,7 +94,7 @@ pub begun_says : (before : Option Script) (settings : Option ScriptReader) (stat
 begun_says before None states s begun says = says
 begun_says before (Some reader) states s begun says = absurd cc
 
-pub says_begun : (before : Option Script) (settings : Option ScriptReader) (states : BothStates) (s : PairSaid) →
+says_begun : (before : Option Script) (settings : Option ScriptReader) (states : BothStates) (s : PairSaid) →
     is_none settings ≡ true → SaysLive states s → SaysPair before settings states s
 says_begun before None states s begun says = says
 says_begun before (Some reader) states s begun says = absurd cc
@@ -129,7 +111,7 @@ first_is : (before : Option Draft) (there : Script) → Some there ≡ option_ma
 first_is (Some d) there is = let same : there ≡ script_in d = cc in (same, refl)
 first_is None there is = absurd cc
 
-pub some_first : (first : Option Draft) → is_none first ≡ false → IsSome first
+some_first : (first : Option Draft) → is_none first ≡ false → IsSome first
 some_first (Some d) is = refl
 some_first None is = absurd cc
 
@@ -185,7 +167,7 @@ opened_says first settings states s before reader configs none says fine same ke
           KeepsBoth states cs.0 cs.1 (record { there = opened cs.0; back = opened cs.1 })) same keeps);
     })
 
--- ---- A live line.
+-- ---- A live line that is read.
 pub reads_live : (now : LivePairReader) (mid : BothStates) (n : ℕ) (s : PairSaid) (ws rest : List (List ℕ))
     (k : LiveKeyword) (said : LivePairLine) → pair_divides s ws ≡ false → IsLiveLine ws k rest →
     pair_opening_fault s ≡ None → SaysLive mid (pair_opened s) →
@@ -209,27 +191,19 @@ reads_live now mid n s ws rest k said stays is none says read goes number begun 
   opens = λ both begun. hands;
 }
 
-pub live_stops : (n : ℕ) (s : PairSaid) (ws : List (List ℕ)) (read : Result LivePairLine LivePairFault) →
-    IfErr read (λ f. IsPairToldAt n (pair_line_fault s ws) f) → IfErr read (λ f. StopsPair n s ws f)
-live_stops n s ws (Ok said) told = tt
-live_stops n s ws (Err f) told = inr told
-
 -- ---- What is kept of both ways.
-pub keeps_there : (states : BothStates) (now : LiveState) (there back : Config) (both : BothLive) (k : LiveKeyword)
-    (w : List ℕ) → is_pass k ≡ false → KeepsBoth states there back both →
-    Keeps now there (live_after both.there (live_said k w)) →
-    KeepsBoth (record states { there = now }) there back (both_after both (of_way There (live_said k w)))
-keeps_there states now there back both k w other keeps new =
-    subst (KeepsBoth (record states { there = now }) there back) (sym (after_there both k w other))
-    (record { keeps_there = new; keeps_back = keeps.keeps_back })
+-- with this of one
+abbrev pub kept_on : BothStates → Way → LiveState → BothStates
+kept_on states There now = record states { there = now }
+kept_on states Back now = record states { back = now }
 
-pub keeps_back : (states : BothStates) (now : LiveState) (there back : Config) (both : BothLive) (k : LiveKeyword)
-    (w : List ℕ) → is_pass k ≡ false → KeepsBoth states there back both →
-    Keeps now back (live_after both.back (live_said k w)) →
-    KeepsBoth (record states { back = now }) there back (both_after both (of_way Back (live_said k w)))
-keeps_back states now there back both k w other keeps new =
-    subst (KeepsBoth (record states { back = now }) there back) (sym (after_back both k w other))
-    (record { keeps_there = keeps.keeps_there; keeps_back = new })
+keeps_on : (way : Way) (states : BothStates) (now : LiveState) (there back : Config) (both : BothLive) (live : Live) →
+    KeepsBoth states there back both → Keeps now (config_on there back way) live →
+    KeepsBoth (kept_on states way now) there back (after_on both way live)
+keeps_on There states now there back both live keeps new =
+    record { keeps_there = new; keeps_back = keeps.keeps_back }
+keeps_on Back states now there back both live keeps new =
+    record { keeps_there = keeps.keeps_there; keeps_back = new }
 
 -- the words of a line that names a way
 abbrev two : List ℕ → List ℕ → List (List ℕ)
@@ -254,57 +228,21 @@ told_is k ws named w way other is names =
     ∙ ap (λ (named : Option Way). of_way (unwrap_or named There) (live_said k w)) (sym names)
 
 -- a line of a way is read
-pub reads_of_way : (now : BothStates) (state : LiveState) (octets : List ℕ) (s : PairSaid) (k : LiveKeyword)
+pub reads_of_way : (old : BothStates) (state : LiveState) (octets : List ℕ) (s : PairSaid) (k : LiveKeyword)
     (ws : List (List ℕ)) (named w : List ℕ) (way : Way) (said : LiveLine) (of : LivePairLine) → is_pass k ≡ false →
-    ws ≡ two named w → Some way ≡ way_named named →
+    ws ≡ two named w → Some way ≡ way_named named → KeepsPair old s (both_now s) →
     Reads state octets (config_in s way) (live_on (both_now s) way) k 3 w said →
     told_pair_line octets of ≡ told_of_way way (told_line octets said) →
-    KeepsPair now s (both_after (both_now s) (of_way way (live_said k w))) → ReadsBoth now octets s k ws of
-reads_of_way now state octets s k ws named w way said of other is names read told keeps = record {
-  fine = rest_is s k ws other ∙ way_line_is s k ws named w way is names ∙ ap (option_map line_wrong.Live) read.fine;
-  told = told ∙ ap (told_of_way way) read.told
-      ∙ ap (λ (saying : PairSaying). happens saying) (sym (told_is k ws named w way other is names));
-  keeps = subst (λ (saying : PairSaying). KeepsPair now s (both_after (both_now s) saying))
-      (sym (told_is k ws named w way other is names)) keeps;
-}
-
-pub reads_there : (old : BothStates) (state : LiveState) (octets : List ℕ) (s : PairSaid) (k : LiveKeyword)
-    (ws : List (List ℕ)) (named w : List ℕ) (said : LiveLine) (of : LivePairLine) → is_pass k ≡ false →
-    ws ≡ two named w → Some There ≡ way_named named → KeepsPair old s (both_now s) →
-    Reads state octets (there_config s) (both_now s).there k 3 w said →
-    told_pair_line octets of ≡ told_of_way There (told_line octets said) →
-    ReadsBoth (record old { there = state }) octets s k ws of
-reads_there old state octets s k ws named w said of other is names keeps read told =
-    reads_of_way (record old { there = state }) state octets s k ws named w There said of other is names read told
-    (keeps_there old state (there_config s) (back_config s) (both_now s) k w other keeps read.keeps)
-
-pub reads_back : (old : BothStates) (state : LiveState) (octets : List ℕ) (s : PairSaid) (k : LiveKeyword)
-    (ws : List (List ℕ)) (named w : List ℕ) (said : LiveLine) (of : LivePairLine) → is_pass k ≡ false →
-    ws ≡ two named w → Some Back ≡ way_named named → KeepsPair old s (both_now s) →
-    Reads state octets (back_config s) (both_now s).back k 3 w said →
-    told_pair_line octets of ≡ told_of_way Back (told_line octets said) →
-    ReadsBoth (record old { back = state }) octets s k ws of
-reads_back old state octets s k ws named w said of other is names keeps read told =
-    reads_of_way (record old { back = state }) state octets s k ws named w Back said of other is names read told
-    (keeps_back old state (there_config s) (back_config s) (both_now s) k w other keeps read.keeps)
-
-pub way_stops : (s : PairSaid) (k : LiveKeyword) (ws : List (List ℕ)) (named w : List ℕ) (way : Way)
-    (f : LiveLineFault) → ws ≡ two named w → Some way ≡ way_named named →
-    value_fault (config_in s way) (live_on (both_now s) way) k 3 w ≡ Some f →
-    way_line_fault s k ws ≡ Some (line_wrong.Live f)
-way_stops s k ws named w way f is names found =
-    way_line_is s k ws named w way is names ∙ ap (option_map line_wrong.Live) found
-
-pub unnamed_stops : (s : PairSaid) (k : LiveKeyword) (ws : List (List ℕ)) (named w : List ℕ) → ws ≡ two named w →
-    None ≡ way_named named → way_line_fault s k ws ≡ Some line_wrong.Way
-unnamed_stops s k ws named w is names = ap (way_line_fault s k) is ∙ ap (way_fault s k w) (sym names)
-
-pub count_stops : (s : PairSaid) (k : LiveKeyword) (ws : List (List ℕ)) → length ws ≢ 2 →
-    way_line_fault s k ws ≡ Some (line_wrong.Count k (length ws))
-count_stops s k ws other =
-    let two : (length ws == 2) ≡ false = grind (arith, nat_tests, other) in
-    ap (λ (same : Bool). option_or (where_true (not same) (line_wrong.Count k (length ws)))
-    (way_fault s k (word_at 1 ws) (way_named (word_at 0 ws)))) two
+    ReadsBoth (kept_on old way state) octets s k ws of
+reads_of_way old state octets s k ws named w way said of other is names keeps read told =
+    let same : pair_live_told k ws ≡ of_way way (live_said k w) = told_is k ws named w way other is names in
+    record {
+      fine = rest_is s k ws other ∙ way_line_is s k ws named w way is names ∙ ap (option_map line_wrong.Live) read.fine;
+      told = told ∙ ap (told_of_way way) read.told ∙ ap (λ (saying : PairSaying). happens saying) (sym same);
+      keeps = subst (KeepsPair (kept_on old way state) s)
+          (sym (ap (both_after (both_now s)) same ∙ after_way way (both_now s) k w other))
+          (keeps_on way old state (there_config s) (back_config s) (both_now s) _ keeps read.keeps);
+    }
 
 -- ticks pass
 pub reads_pass : (now : BothStates) (octets : List ℕ) (s : PairSaid) (ws : List (List ℕ)) (w : List ℕ) (n : ℕ) →

@@ -21,7 +21,7 @@ use Rattle.law_live.proofs.BothWaysAnswerLaws.{answers-got, answers-refused}
 use Rattle.law_live.proofs.BothWaysCountLaws.{way-stands}
 use Rattle.law_live.proofs.BothWaysSharedLaws.{pair-own, said-pair}
 use Rattle.law_live.proofs.BothWaysWalkLaws.{both-report, both-walks}
-use Rattle.pair_walk.specs.declared.pair_script.script_pair.ScriptPair.{ScriptPair}
+use Rattle.text_pairs.specs.declared.script_pair.ScriptPair.{ScriptPair}
 use Rattle.pair_live.specs.PairHeadline.{IsWayHeadline, IsWayWalk, way_told_text}
 
 module _ (there back : Config) (said : List PairSaying) (network : IsPairNetwork there back)

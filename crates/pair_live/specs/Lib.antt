@@ -7,5 +7,5 @@ pub mod PairReplies
 pub mod PairAnswered
 pub mod PairPassing
 pub mod PairDialogue
-pub mod PairTalking
+pub mod PairByLines
 pub mod PairHeadline

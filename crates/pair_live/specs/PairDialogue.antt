@@ -1,10 +1,11 @@
 -- What is replied to the lines of a live text of both ways, each behind those before it: the answers to what it says,
 -- of the two scripts of which the lines so far say all; or what is wrong with it.
-use Rattle.std.specs.Prelude.{ℕ, ◌+◌, List, [], ◌∷◌, ◌++◌, length, Option, Some, None, Ok, Err}
+use Rattle.std.specs.Prelude.{ℕ, ◌+◌, List, [], ◌∷◌, ◌++◌, length, Option, is_some, option_map}
 use Rattle.text_lines.specs.WordsOfLine.{words}
 use Rattle.law_live.specs.Common.{last_pair_text}
-use Rattle.command_parts.specs.Dialogue.{Dialogue, Reply}
+use Rattle.command_parts.specs.Dialogue.{Dialogue}
 use Rattle.walk_live.specs.declared.asked.Asked.{Asked}
+use Rattle.walk_live.specs.LiveTexts.{FaultNote, LiveText, dialogue_of}
 use Rattle.pair_live.specs.PairLines.{PairWrong, pair_line_fault, pair_opening_fault}
 use Rattle.pair_live.specs.PairNotes.{live_pair_fault_text, live_pair_why}
 use Rattle.pair_live.specs.PairReaderStands.{pair_fault_at}
@@ -27,21 +28,20 @@ abbrev pub lines_last : List (List ℕ) → List ℕ
 lines_last ls = last_pair_text (scripts_of_live ls).there (scripts_of_live ls).back (pair_sayings ls)
 
 -- ---- replies
--- a text; or the note on the fault of line n
-abbrev pub live_pair_reply_by : ℕ → Option PairWrong → List ℕ → Reply
-live_pair_reply_by n None text = Ok text
-live_pair_reply_by n (Some wrong) text =
-    Err (live_pair_why (pair_fault_at n wrong), live_pair_fault_text (pair_fault_at n wrong))
+-- the note on the fault of line n, where it has one
+abbrev pub note_at : ℕ → Option PairWrong → FaultNote
+note_at n found =
+    option_map (λ wrong. (live_pair_why (pair_fault_at n wrong), live_pair_fault_text (pair_fault_at n wrong))) found
 
--- to a line behind others
-abbrev pub live_pair_reply : Asked → List (List ℕ) → List ℕ → Reply
-live_pair_reply asked ls line =
-    live_pair_reply_by (length ls + 1) (pair_line_fault (pair_said_in ls) (words line)) (line_answered asked ls line)
-
--- to the end of the text: the totals of both ways
-abbrev pub live_pair_last : List (List ℕ) → Reply
-live_pair_last ls = live_pair_reply_by (length ls + 1) (pair_opening_fault (pair_said_in ls)) (lines_last ls)
+abbrev pub pair_text : LiveText
+pair_text = record {
+  begun = λ ls. is_some (pair_said_in ls).live;
+  fault = λ ls line. note_at (length ls + 1) (pair_line_fault (pair_said_in ls) (words line));
+  missing = λ ls. note_at (length ls + 1) (pair_opening_fault (pair_said_in ls));
+  answer = line_answered;
+  last = lines_last;
+}
 
 -- by what is asked for
 abbrev pub pair_dialogue : Asked → Dialogue
-pair_dialogue asked = record { reply = live_pair_reply asked; last = live_pair_last }
+pair_dialogue asked = dialogue_of pair_text asked

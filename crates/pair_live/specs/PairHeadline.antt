@@ -11,8 +11,8 @@ use Rattle.law_pair.specs.Common.{IsPair, counts_on}
 use Rattle.law_live.specs.Common.{PairSaying, answers_on, frames_got, items_refused, leg_on, pair_answers}
 use Rattle.law_live.specs.Common.{pair_counts}
 use Rattle.law_live.specs.Common.{totals_on}
-use Rattle.pair_walk.specs.declared.pair_script.script_pair.ScriptPair.{ScriptPair}
-use Rattle.pair_walk.specs.ReportsOfWays.{text_on}
+use Rattle.text_pairs.specs.declared.script_pair.ScriptPair.{ScriptPair}
+use Rattle.text_pairs.specs.ReportsOfWays.{text_on}
 use Rattle.pair_live.specs.PairDialogue.{lines_answered, lines_last}
 use Rattle.pair_live.specs.PairSayingsOfLines.{scripts_of_live, pair_sayings}
 use Rattle.walk_live.specs.declared.asked.Asked.{Asked}

@@ -23,10 +23,10 @@ use Rattle.text_live.specs.declared.live_keyword.FirstWord.{FirstWord}
 use Rattle.text_live.specs.declared.live_keyword.FirstWord.TheVariants as first
 use Rattle.text_live.specs.declared.live_fault.LiveLineFault.TheVariants as live_wrong
 use Rattle.text_live.specs.LiveLines.{first_of, rest_fault, value_fault, live_said}
-use Rattle.pair_walk.specs.declared.pair_script.script_pair.ScriptPair.{ScriptPair}
-use Rattle.pair_walk.specs.declared.pair_script.script_pair.PairFault.{PairFault}
-use Rattle.pair_walk.specs.pair_script.PairTextLines.{is_division}
-use Rattle.pair_walk.specs.pair_script.PairOfText.{limits_fault}
+use Rattle.text_pairs.specs.declared.script_pair.ScriptPair.{ScriptPair}
+use Rattle.text_pairs.specs.declared.script_pair.PairFault.{PairFault}
+use Rattle.text_pairs.specs.PairTextLines.{is_division}
+use Rattle.text_pairs.specs.PairOfText.{limits_fault}
 use Rattle.pair_live.specs.declared.live_pair_fault.PairLineFault.{PairLineFault}
 use Rattle.pair_live.specs.declared.live_pair_fault.PairLineFault.TheVariants as line_wrong
 

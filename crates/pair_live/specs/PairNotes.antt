@@ -7,7 +7,7 @@ use Rattle.text_live.specs.LiveHelpTexts.{keyword_text, live_help_text, live_kin
 use Rattle.command_parts.specs.Common.{line_text}
 use Rattle.command_parts.specs.declared.stop_and_status.Refusal.{Refusal}
 use Rattle.command_parts.specs.declared.stop_and_status.Refusal.TheVariants as why
-use Rattle.pair_walk.specs.pair_script.Faults.{pair_fault_text, pair_why}
+use Rattle.text_pairs.specs.Faults.{pair_fault_text, pair_why}
 use Rattle.pair_live.specs.declared.live_pair_fault.LivePairFault.{LivePairFault}
 use Rattle.pair_live.specs.declared.live_pair_fault.LivePairFault.TheVariants.{Pair, Line}
 use Rattle.pair_live.specs.declared.live_pair_fault.PairLineFault.{PairLineFault}

@@ -14,7 +14,7 @@ use Rattle.law_live.specs.Common.{lands_on, cuts_on, mends_on, both_pass, IsPair
 use Rattle.text_live.specs.declared.live_keyword.LiveKeyword.{LiveKeyword}
 use Rattle.text_live.specs.LiveLines.{Told, nothing as one_nothing, setting as one_setting, happens as one_happens}
 use Rattle.text_live.specs.LiveReaderStands.{Keeps, IsKept, IsRoom}
-use Rattle.pair_walk.specs.declared.pair_script.script_pair.PairFault.TheVariants as pair_fault
+use Rattle.text_pairs.specs.declared.script_pair.PairFault.TheVariants as pair_fault
 use Rattle.pair_live.specs.declared.live_pair_fault.LivePairFault.{LivePairFault}
 use Rattle.pair_live.specs.declared.live_pair_fault.LivePairFault.TheVariants as text_wrong
 use Rattle.pair_live.specs.declared.live_pair_line.LivePairLine.{LivePairLine}

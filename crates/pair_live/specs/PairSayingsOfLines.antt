@@ -1,12 +1,12 @@
 -- What lines of a live text of both ways say that happens, one after another, and the two scripts that say the same
 -- afterwards.
-use Rattle.std.specs.Prelude.{◌≡◌, ℕ, ◌+◌, List, [], ◌∷◌, flat_map, Option, Some, None}
+use Rattle.std.specs.Prelude.{◌≡◌, ℕ, List, [], ◌∷◌, flat_map, Option, Some, None}
 use Rattle.text_lines.specs.WordsOfLine.{words}
-use Rattle.text_lines.specs.FirstFault.{AreSound}
 use Rattle.law_model.specs.declared.script_types.Config.{Config}
 use Rattle.law_pair.specs.declared.pair_events.Way.TheVariants.{There, Back}
 use Rattle.law_live.specs.Common.{live_of, PairSaying, said_on, IsPairNetwork, IsPairSaid, script_on}
-use Rattle.pair_walk.specs.declared.pair_script.script_pair.ScriptPair.{ScriptPair}
+use Rattle.text_live.specs.Sayings.{behind, AreFineBehind}
+use Rattle.text_pairs.specs.declared.script_pair.ScriptPair.{ScriptPair}
 use Rattle.pair_live.specs.PairLines.{BothLive, PairSaid, PairTold, nothing, setting, happens, there_config}
 use Rattle.pair_live.specs.PairLines.{back_config, pair_told, pair_line_after, pair_lines, nothing_said}
 
@@ -27,20 +27,11 @@ pair_sayings ls = flat_map line_pair_saying ls
 abbrev pub pair_with_line : ℕ → PairSaid → List ℕ → PairSaid
 pair_with_line n s line = pair_line_after n s (words line)
 
--- from line n on, behind others
-abbrev pub pair_said_behind : ℕ → PairSaid → List (List ℕ) → PairSaid
-pair_said_behind n s [] = s
-pair_said_behind n s (line ∷ ls) = pair_said_behind (n + 1) (pair_with_line n s line) ls
-
 abbrev pub pair_said_in : List (List ℕ) → PairSaid
-pair_said_in ls = pair_said_behind 1 nothing_said ls
-
--- none of them is faulty behind those before it
-abbrev pub AreFineFrom : ℕ → PairSaid → List (List ℕ) → Type 0
-AreFineFrom n s ls = AreSound pair_lines n s ls (pair_said_behind n s ls)
+pair_said_in ls = behind pair_lines 1 nothing_said ls
 
 abbrev pub AreFine : PairSaid → List (List ℕ) → Type 0
-AreFine s ls = AreFineFrom 1 s ls
+AreFine s ls = AreFineBehind pair_lines 1 s ls
 
 -- ---- the two scripts
 abbrev pub scripts_by : PairSaid → List PairSaying → ScriptPair

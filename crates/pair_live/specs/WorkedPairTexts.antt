@@ -13,8 +13,8 @@ use Rattle.law_pair.specs.declared.pair_events.Way.TheVariants.{There, Back}
 use Rattle.text_live.specs.declared.live_keyword.EarlierPart.TheVariants.{Configuration, Windows}
 use Rattle.text_live.specs.declared.live_keyword.LiveKeyword.TheVariants as word
 use Rattle.text_live.specs.declared.live_fault.LiveLineFault.TheVariants as live_wrong
-use Rattle.pair_walk.specs.declared.pair_script.script_pair.ScriptPair.{ScriptPair}
-use Rattle.pair_walk.specs.declared.pair_script.script_pair.PairFault.TheVariants as pair_fault
+use Rattle.text_pairs.specs.declared.script_pair.ScriptPair.{ScriptPair}
+use Rattle.text_pairs.specs.declared.script_pair.PairFault.TheVariants as pair_fault
 use Rattle.pair_live.specs.declared.live_pair_fault.PairLineFault.TheVariants as line_wrong
 use Rattle.pair_live.specs.PairLines.{PairSaid, PairWrong, of_script, of_limits, undivided, of_live}
 use Rattle.pair_live.specs.PairLines.{pair_lines, nothing_said}

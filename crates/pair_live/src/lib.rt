@@ -15,9 +15,9 @@ mod read_pair_line;
 mod answered_pair;
 mod way_lines;
 // The conversation.
+mod pair_by_lines;
 mod pair_command;
 mod pair_laws;
-mod pair_talker;
 
 pub use live_pair_fault::{LivePairFault, PairLineFault};
 pub use live_pair_line::LivePairLine;

@@ -2,9 +2,9 @@
 ghost use Rattle.std.specs.Prelude.{◌≡◌};
 ghost use Rattle.pair_live.specs.PairNotes.{pair_line_kind};
 
-use pair_walk::pair_script::PairFault;
 use text_lines::LineKind;
 use text_live::{LiveKeyword, LiveLineFault};
+use text_pairs::PairFault;
 
 /// What is wrong with a line of a live text of both ways and with no line of a script.
 #[derive(Clone, Copy, Debug)]

@@ -1,27 +1,24 @@
 //! A live text of both ways, line by line.
-ghost use Rattle.std.specs.Prelude.{◌≡◌, ◌⊎◌, ℕ, ◌+◌, List, true, false, option_map, Some, None, Err};
-ghost use Rattle.std.specs.Prelude.{IfOk, IfErr, OnOk, OnErr, IfSome};
-ghost use Rattle.text_lines.specs.WordsOfLine.{words, is_skipped};
+ghost use Rattle.std.specs.Prelude.{◌≡◌, ℕ, ◌+◌, List, true, false, Some, None, Err, IfOk, IfErr, OnOk, OnErr, IfSome};
+ghost use Rattle.text_lines.specs.WordsOfLine.{words};
 ghost use Rattle.law_model.specs.declared.script_types.Script.{Script};
-ghost use Rattle.text_scripts.specs.script_read.ScriptInPieces.{IsReader, IsUntested, HasNumbersLeft};
-ghost use Rattle.text_scripts.specs.script_read.ScriptInPieces.{next_number, drafted};
-ghost use Rattle.text_scripts.specs.script_read.Statements.{words_fault, words_said, after};
+ghost use Rattle.text_scripts.specs.script_read.ScriptInPieces.{IsReader, IsUntested, HasNumbersLeft, next_number};
 ghost use Rattle.text_live.specs.LiveReaderStands.{IsEarlierLine, IsLiveLine};
-ghost use Rattle.pair_live.specs.PairLines.{PairSaid, of_script, nothing_said, pair_divides, pair_line_fault};
+ghost use Rattle.pair_live.specs.PairLines.{PairSaid, nothing_said, pair_divides};
 ghost use Rattle.pair_live.specs.PairLines.{pair_opening_fault, opening_by, there_config, back_config};
 ghost use Rattle.pair_live.specs.PairReaderStands.{IsLivePairReader, IsPairAt, IsPairToldAt, HasPairLinesLeft};
 ghost use Rattle.pair_live.specs.PairReaderStands.{ReadsPairLine, StopsPair, HandsOutBoth, SaysSettings};
 ghost use Rattle.pair_live.specs.PairReaderStands.{pair_failure, pair_number, waiting_configs, pair_frame};
-ghost use Rattle.pair_live.specs.PairReaderStands.{pair_opened, pair_begun, no_pair_memory, ArePairConfigs};
+ghost use Rattle.pair_live.specs.PairReaderStands.{pair_opened, pair_begun, ArePairConfigs};
 
 use crate::live_pair_fault::{LivePairFault, PairLineFault};
 use crate::live_pair_line::LivePairLine;
 use crate::read_pair_line::BothStates;
 use law_model::{Config, LONGEST_OFFER, Script};
-use pair_walk::pair_script::{PairFault, ScriptPair, is_division, limits_fault};
 use std::alloc::{AllocError, Global};
 use text_lines::first_word;
 use text_live::{EarlierPart, FirstWord, LiveKeyword, LiveLineFault};
+use text_pairs::{PairFault, ScriptPair, is_division, limits_fault};
 use text_scripts::script_read::ScriptReader;
 
 /// Reads a live text of both ways line by line. It keeps no item and no failure, but what later lines are tested by.
@@ -44,29 +41,6 @@ pub struct LivePairReader {
     octets: Vec<u8>,
     // Why it doesn't read on.
     fault: Option<LivePairFault>,
-}
-
-/// The lines of a script with one more.
-fn next_script(
-    alloc: Global,
-    reader: ScriptReader,
-    line: &[u8],
-) -> Result<ScriptReader, LivePairFault>
-    requires reader { IsReader reader }
-    requires room { HasNumbersLeft reader 1 }
-    ensures reader { IfOk result IsReader }
-    ensures sound { IfOk result (λ _. words_fault (drafted reader) (words line.now) ≡ None) }
-    ensures number { IfOk result (λ read. next_number read ≡ next_number reader + 1) }
-    ensures draft { IfOk result (λ read. drafted read ≡
-        after (next_number reader) (drafted reader) (words_said (words line.now))) }
-    ensures fault { IfErr result (λ fault. (fault ≡ no_pair_memory) ⊎
-        IsPairToldAt (next_number reader)
-        (option_map of_script (words_fault (drafted reader) (words line.now))) fault) }
-{
-    match reader.read_next(alloc, line) {
-        Ok(read) => Ok(read),
-        Err(fault) => Err(LivePairFault::Pair(PairFault::Script(fault))),
-    }
 }
 
 /// The configurations that lines of two scripts say, where they are whole and fit together.
@@ -194,43 +168,10 @@ impl LivePairReader {
         }
     }
 
-    /// Reads a line that says nothing.
-    fn read_blank(&mut self, line: &[u8]) -> Result<LivePairLine, LivePairFault>
-        requires reader { IsLivePairReader self.old }
-        requires room { HasPairLinesLeft self.old }
-        requires goes_on { pair_failure self.old ≡ None }
-        requires blank { is_skipped (words line.now) ≡ true }
-        ensures reader { IsLivePairReader self.new }
-        ensures read { (n : ℕ) (s : PairSaid) → IsPairAt self.old n s →
-            pair_divides s (words line.now) ≡ false →
-            IfOk result (λ said. ReadsPairLine self.new n s (words line.now) said) }
-        ensures stops { (n : ℕ) (s : PairSaid) → IsPairAt self.old n s →
-            pair_divides s (words line.now) ≡ false →
-            IfErr result (λ fault. StopsPair n s (words line.now) fault) }
-        ensures failed { IfErr result (λ fault. pair_failure self.new ≡ Some fault) }
-        ensures number { OnErr result (pair_number self.new ≡ pair_number self.old) }
-    {
-        let Some(reader) = self.settings.take() else {
-            self.number += 1;
-            return Ok(LivePairLine::Blank);
-        };
-        match next_script(self.alloc, reader, line) {
-            Ok(reader) => {
-                self.settings = Some(reader);
-                self.number += 1;
-                Ok(LivePairLine::Blank)
-            }
-            Err(fault) => {
-                self.fault = Some(fault);
-                Err(fault)
-            }
-        }
-    }
-
-    /// Reads a line that scripts have.
-    fn read_setting(
+    /// Reads a line that says nothing, or one that scripts have, of this part.
+    fn read_earlier(
         &mut self,
-        part: EarlierPart,
+        part: Option<EarlierPart>,
         line: &[u8],
     ) -> Result<LivePairLine, LivePairFault>
         requires reader { IsLivePairReader self.old }
@@ -247,52 +188,27 @@ impl LivePairReader {
         ensures failed { IfErr result (λ fault. pair_failure self.new ≡ Some fault) }
         ensures number { OnErr result (pair_number self.new ≡ pair_number self.old) }
     {
-        let Some(reader) = self.settings.take() else {
-            return Err(self.stop(PairLineFault::Live(LiveLineFault::Behind(part))));
+        let says = match part {
+            Some(_) => LivePairLine::Setting,
+            None => LivePairLine::Blank,
         };
-        match next_script(self.alloc, reader, line) {
+        let Some(reader) = self.settings.take() else {
+            if let Some(part) = part {
+                return Err(self.stop(PairLineFault::Live(LiveLineFault::Behind(part))));
+            }
+            self.number += 1;
+            return Ok(says);
+        };
+        match reader.read_next(self.alloc, line) {
             Ok(reader) => {
                 self.settings = Some(reader);
                 self.number += 1;
-                Ok(LivePairLine::Setting)
+                Ok(says)
             }
             Err(fault) => {
-                self.fault = Some(fault);
-                Err(fault)
-            }
-        }
-    }
-
-    /// Begins with live lines, where none has come.
-    fn open(&mut self) -> Result<(), LivePairFault>
-        requires reader { IsLivePairReader self.old }
-        requires goes_on { pair_failure self.old ≡ None }
-        ensures reader { IsLivePairReader self.new }
-        ensures begun { OnOk result (pair_begun self.new ≡ true) }
-        ensures goes_on { OnOk result (pair_failure self.new ≡ None) }
-        ensures number { pair_number self.new ≡ pair_number self.old }
-        ensures whole { (n : ℕ) (s : PairSaid) → IsPairAt self.old n s →
-            OnOk result (pair_opening_fault s ≡ None) }
-        ensures at { (n : ℕ) (s : PairSaid) → IsPairAt self.old n s →
-            OnOk result (IsPairAt self.new n (pair_opened s)) }
-        ensures configs { (n : ℕ) (s : PairSaid) → IsPairAt self.old n s →
-            OnOk result (HandsOutBoth self.new s) }
-        ensures fault { (n : ℕ) (s : PairSaid) → IsPairAt self.old n s →
-            IfErr result (λ fault. IsPairToldAt n (pair_opening_fault s) fault) }
-        ensures failed { IfErr result (λ fault. pair_failure self.new ≡ Some fault) }
-    {
-        let Some(reader) = self.settings.take() else {
-            return Ok(());
-        };
-        match opened(self.first.take(), reader) {
-            Ok(configs) => {
-                self.states.open(&configs.0, &configs.1);
-                self.configs = Some(configs);
-                Ok(())
-            }
-            Err(fault) => {
-                self.fault = Some(fault);
-                Err(fault)
+                let stop = LivePairFault::Pair(PairFault::Script(fault));
+                self.fault = Some(stop);
+                Err(stop)
             }
         }
     }
@@ -312,11 +228,11 @@ impl LivePairReader {
             IfOk result (λ said. ReadsPairLine self.new n s ws said) }
         ensures stops { (n : ℕ) (s : PairSaid) (ws : List (List ℕ)) → IsPairAt self.old n s →
             pair_divides s ws ≡ false → IsLiveLine ws keyword (words rest.now) →
-            IfErr result (λ fault. IsPairToldAt n (pair_line_fault s ws) fault) }
+            IfErr result (λ fault. StopsPair n s ws fault) }
         ensures failed { IfErr result (λ fault. pair_failure self.new ≡ Some fault) }
         ensures number { OnErr result (pair_number self.new ≡ pair_number self.old) }
     {
-        match self.open() {
+        match self.finish() {
             Ok(()) => {}
             Err(fault) => return Err(fault),
         }
@@ -350,20 +266,23 @@ impl LivePairReader {
             return self.divide();
         }
         let Some((word, rest)) = first_word(line) else {
-            return self.read_blank(line);
+            return self.read_earlier(None, line);
         };
         match FirstWord::of(word) {
-            FirstWord::Earlier(part) => self.read_setting(part, line),
+            FirstWord::Earlier(part) => self.read_earlier(Some(part), line),
             FirstWord::Live(keyword) => self.read_live(keyword, rest),
             FirstWord::Other => Err(self.stop(PairLineFault::Live(LiveLineFault::First))),
         }
     }
 
-    /// Ends the text. Where no live line has come, the configurations have to be whole and to fit together, and are
-    /// handed out then.
+    /// Ends the lines of the configurations, as the first live line does, or the end of a text without one: they have
+    /// to be whole and to fit together, and are handed out then.
     pub fn finish(&mut self) -> Result<(), LivePairFault>
         requires reader { IsLivePairReader self.old }
         ensures reader { IsLivePairReader self.new }
+        ensures begun { OnOk result (pair_begun self.new ≡ true) }
+        ensures goes_on { OnOk result (pair_failure self.new ≡ None) }
+        ensures number { pair_number self.new ≡ pair_number self.old }
         ensures whole { (n : ℕ) (s : PairSaid) → IsPairAt self.old n s →
             OnOk result (pair_opening_fault s ≡ None) }
         ensures at { (n : ℕ) (s : PairSaid) → IsPairAt self.old n s →
@@ -379,6 +298,19 @@ impl LivePairReader {
         if let Some(fault) = self.fault {
             return Err(fault);
         }
-        self.open()
+        let Some(reader) = self.settings.take() else {
+            return Ok(());
+        };
+        match opened(self.first.take(), reader) {
+            Ok(configs) => {
+                self.states.open(&configs.0, &configs.1);
+                self.configs = Some(configs);
+                Ok(())
+            }
+            Err(fault) => {
+                self.fault = Some(fault);
+                Err(fault)
+            }
+        }
     }
 }

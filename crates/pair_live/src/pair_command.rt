@@ -4,11 +4,11 @@ ghost use Rattle.command_parts.specs.Gives.{GivesTalk};
 ghost use Rattle.command_parts.specs.Dialogue.{talk_of};
 ghost use Rattle.pair_live.specs.PairDialogue.{pair_dialogue};
 
-use crate::pair_talker::PairTalker;
-use command_parts::{Ran, Stop, talk};
+use crate::answered_pair::AnsweredPair;
+use command_parts::{Ran, Stop};
 use octet_io::{ByteSink, ByteSource};
-use std::alloc::{AllocError, Global};
-use walk_live::Asked;
+use std::alloc::Global;
+use walk_live::{Asked, converse};
 
 /// Answers a live text of both ways, with what is asked for of the decision steps and passes of each. A line is
 /// answered once its LF has come, and what is answered to the lines that have come is put on `out` before more is
@@ -24,8 +24,5 @@ pub fn live_pair<S: ByteSource, K: ByteSink>(
         (lent K.written K.faults out.old out.new) (talk_of (pair_dialogue tells))
         (λ _. Unit {0}) result }
 {
-    match PairTalker::new(alloc, tells) {
-        Ok(talker) => talk(alloc, talker, source, out),
-        Err(AllocError) => Err(Stop::Memory),
-    }
+    converse::<AnsweredPair, S, K>(alloc, tells, source, out)
 }

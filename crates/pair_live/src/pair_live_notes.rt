@@ -6,9 +6,9 @@ ghost use Rattle.pair_live.specs.PairReaderStands.{no_pair_memory};
 
 use crate::live_pair_fault::{LivePairFault, PairLineFault};
 use command_parts::{Stop, line_fault};
-use pair_walk::pair_script::stop_of_pair;
 use text_help::count_help;
 use text_live::{keyword_word, live_help};
+use text_pairs::stop_of_pair;
 use text_report::TextCursor;
 
 /// Room for what is said of how to write a line.

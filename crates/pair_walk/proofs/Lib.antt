@@ -1,3 +1,2 @@
 pub mod PairReportRowsLaws
-pub mod PairScriptReaderLaws
 pub mod OneWayScriptLaws

@@ -15,11 +15,11 @@ use Rattle.law_pair.specs.Common.{IsWay, way_of, way_telling, way_tells}
 use Rattle.law_pair.specs.declared.pair_events.Way.{Way}
 use Rattle.law_pair.specs.declared.pair_events.Way.TheVariants.{There, Back}
 use Rattle.law_pair.proofs.PairWayAndPacketLaws.{report-same, telling-cells, telling-rows, telling-table, way-sound}
-use Rattle.pair_walk.specs.declared.pair_script.script_pair.ScriptPair.{ScriptPair}
-use Rattle.pair_walk.specs.pair_script.PairOfText.{pair_of}
+use Rattle.text_pairs.specs.declared.script_pair.ScriptPair.{ScriptPair}
+use Rattle.text_pairs.specs.PairOfText.{pair_of}
 use Rattle.pair_walk.specs.OneWay.{few_runs, one_way_of, way_script_of}
-use Rattle.pair_walk.specs.ReportsOfWays.{text_on, way_text}
-use Rattle.pair_walk.proofs.PairScriptReaderLaws.{valid_pair}
+use Rattle.text_pairs.specs.ReportsOfWays.{text_on, way_text}
+use Rattle.text_pairs.proofs.PairScriptReaderLaws.{valid_pair}
 
 -- ---- a script that is given has few lost lines
 few-given : (own script : Script) → few_runs own ≡ Ok script → (own ≡ script) × HasFewLosses own

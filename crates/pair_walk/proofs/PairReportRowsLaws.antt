@@ -28,13 +28,13 @@ use Rattle.text_got.specs.declared.got_text.GotLines.{GotLines}
 use Rattle.text_got.specs.TextSoFar.{AppendsSome, GivesUp, HasText, has_failed, name_of, start_at}
 use Rattle.law_pair.proofs.PairMeasureAndDrainLaws.{pair-begins}
 use Rattle.law_pair.proofs.PairWayAndPacketLaws.{there-report, back-report, way-sound}
-use Rattle.pair_walk.specs.ReportsOfWays.{way_text}
+use Rattle.text_pairs.specs.ReportsOfWays.{way_text}
 use Rattle.command_parts.specs.Common.{Lent, WritesPart, writes_both}
 use Rattle.law_model.specs.declared.script_types.Script.{Script}
 use Rattle.law_headline.proofs.ReportedFramesLaws.{is_headline}
-use Rattle.pair_walk.specs.declared.pair_script.script_pair.ScriptPair.{ScriptPair}
-use Rattle.pair_walk.specs.pair_script.PairOfText.{pair_of}
-use Rattle.pair_walk.proofs.PairScriptReaderLaws.{valid_pair}
+use Rattle.text_pairs.specs.declared.script_pair.ScriptPair.{ScriptPair}
+use Rattle.text_pairs.specs.PairOfText.{pair_of}
+use Rattle.text_pairs.proofs.PairScriptReaderLaws.{valid_pair}
 use Rattle.pair_walk.specs.Headline.{IsWayHeadline, IsPairHeadline}
 
 -- ---- What a round of a pair leaves, row by row.

@@ -4,8 +4,8 @@ use Rattle.law_model.specs.declared.script_types.Script.{Script}
 use Rattle.law_walk.specs.Common.{numbered}
 use Rattle.law_pair.specs.Common.{way_of}
 use Rattle.law_headline.specs.Headline.{IsHeadline}
-use Rattle.pair_walk.specs.declared.pair_script.script_pair.ScriptPair.{ScriptPair}
-use Rattle.pair_walk.specs.pair_script.PairOfText.{pair_of}
+use Rattle.text_pairs.specs.declared.script_pair.ScriptPair.{ScriptPair}
+use Rattle.text_pairs.specs.PairOfText.{pair_of}
 
 -- of the way of a script, beside the other one: with all its ticks, all its rows and all its items
 abbrev pub IsWayHeadline : Script → Script → List ℕ → Type 0

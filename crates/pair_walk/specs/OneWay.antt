@@ -6,9 +6,9 @@ use Rattle.law_model.specs.declared.script_types.Script.{Script}
 use Rattle.law_pair.specs.Common.{is_unheard, runs_of, way_config}
 use Rattle.law_pair.specs.declared.pair_events.Way.{Way}
 use Rattle.law_pair.specs.declared.pair_events.Way.TheVariants.{There, Back}
-use Rattle.pair_walk.specs.declared.pair_script.script_pair.ScriptPair.{ScriptPair}
-use Rattle.pair_walk.specs.declared.pair_script.script_pair.PairFault.{PairFault}
-use Rattle.pair_walk.specs.declared.pair_script.script_pair.PairFault.TheVariants.{Runs}
+use Rattle.text_pairs.specs.declared.script_pair.ScriptPair.{ScriptPair}
+use Rattle.text_pairs.specs.declared.script_pair.PairFault.{PairFault}
+use Rattle.text_pairs.specs.declared.script_pair.PairFault.TheVariants.{Runs}
 
 -- of the way of a script, beside the other one. It has no event lines, so it drains
 abbrev pub one_way_of : Script → Script → Script

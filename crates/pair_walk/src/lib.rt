@@ -1,13 +1,10 @@
-//! Two scripts in one text, for two sessions that carry each other's return packets, and what comes of them:
-//! the reports of both ways, and the script of each way by itself. Nothing of a pair's events stands here; that
-//! is in `pair_engine`. Begin with `write_pair`; what a text says is read by `pair_script`, and `one_way_law`
-//! says what the script of a way is worth.
-//!
-//! - `pair_script`: two scripts in one text, for two sessions that carry each other's return packets.
+//! What comes of two scripts in one text, for two sessions that carry each other's return packets: the reports of
+//! both ways, and the script of each way by itself. Nothing of a pair's events stands here; that is in `pair_engine`.
+//! Begin with `write_pair`; what a text says is read by `text_pairs`, and `one_way_law` says what the script of a way
+//! is worth.
 #![tactic(auto)]
 
 mod pair_report;
-pub mod pair_script;
 mod script_of_way;
 
 ghost use Rattle.std.specs.Prelude.{◌≡◌, ℕ, ◌≤◌, List, [], length, Ok};
@@ -18,9 +15,9 @@ ghost use Rattle.law_walk.specs.Common.{session_of, session_rows};
 ghost use Rattle.law_headline.specs.WalkTexts.{walk_text};
 ghost use Rattle.law_pair.specs.Common.{telling_of, way_of};
 ghost use Rattle.law_pair.specs.declared.pair_events.Way.{Way};
-ghost use Rattle.pair_walk.specs.declared.pair_script.script_pair.ScriptPair.{ScriptPair};
-ghost use Rattle.pair_walk.specs.pair_script.PairOfText.{pair_of};
-ghost use Rattle.pair_walk.specs.ReportsOfWays.{text_on, way_text};
+ghost use Rattle.text_pairs.specs.declared.script_pair.ScriptPair.{ScriptPair};
+ghost use Rattle.text_pairs.specs.PairOfText.{pair_of};
+ghost use Rattle.text_pairs.specs.ReportsOfWays.{text_on, way_text};
 ghost use Rattle.pair_walk.specs.OneWay.{one_way_of, way_script_of};
 ghost use Rattle.pair_walk.specs.Headline.{IsPairHeadline};
 

@@ -9,7 +9,7 @@ ghost use Rattle.law_pair.specs.Common.{IsPair, counts_on, pair_begin, pair_roun
 ghost use Rattle.law_pair.specs.declared.pair_events.Way.TheVariants.{There as THERE, Back as BACK};
 ghost use Rattle.pair_engine.specs.PairAfterEvent.{leg_on, plan_of, with_counts, GivesWay, MoreRows};
 ghost use Rattle.pair_walk.specs.Rounds.{FailsOne, FewRows};
-ghost use Rattle.pair_walk.specs.ReportsOfWays.{way_text};
+ghost use Rattle.text_pairs.specs.ReportsOfWays.{way_text};
 
 use command_parts::write_rest;
 use law_model::Silent;

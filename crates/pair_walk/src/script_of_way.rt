@@ -3,14 +3,14 @@ ghost use Rattle.std.specs.Prelude.{◌≡◌, ◌⊎◌, ℕ, ◌<◌, ◌≤�
 ghost use Rattle.std.specs.Prelude.{IfNone, IfSome, IfOk, IfErr, Ok, Err};
 ghost use Rattle.law_model.specs.Common.{most_packets, most_windows};
 ghost use Rattle.law_pair.specs.Common.{IsPair, IsWay, is_unheard, unheard, way_config};
-ghost use Rattle.pair_walk.specs.pair_script.Pieces.{no_memory};
+ghost use Rattle.text_pairs.specs.Pieces.{no_memory};
 ghost use Rattle.pair_walk.specs.OneWay.{few_runs, one_way_of, runs_left, way_script_of};
 
-use crate::pair_script::{PairFault, ScriptPair};
 use fate_engine::fate_core::is_heard;
 use law_model::{LostList, Script};
 use law_pair::Way;
 use std::alloc::{AllocError, Global};
+use text_pairs::{PairFault, ScriptPair};
 use text_scripts::script_read::ScriptFault;
 
 /// Whether a return packet is lost since no line of the other way has the packet that carries it.

@@ -1,8 +1,7 @@
--- Return cells of an inbox that have come or are missing, and why a source is early for a tick.
+-- Return cells of an inbox that have come or are missing.
 use Rattle.std.proofs.Common.{◌≡◌, ℕ, suc, ◌+◌, ◌/◌, ◌%◌, ◌==◌, ◌<◌, ◌≤◌, nat_le, true, false, List, [], ◌∷◌, ◌++◌}
 use Rattle.std.proofs.Common.{map, take, drop, length, slice_get, Option, Some, None, option_map, refl, sym, ◌∙◌, ap}
-use Rattle.std.proofs.Common.{subst, arith, inl, inr, is_some, length-append, drop-drop, Bool, if◌then◌else◌, leb-true}
-use Rattle.std.proofs.Common.{leb-false}
+use Rattle.std.proofs.Common.{subst, arith, inl, inr, is_some, length-append, drop-drop}
 use Rattle.std.proofs.lemmas.Bool.{cases_Bool}
 use Rattle.std.proofs.lemmas.List.{map-append, take-append-le, drop-append-le, length-map}
 use Rattle.std.proofs.lemmas.Option.{slice_get-map, slice_get_within}
@@ -10,11 +9,9 @@ use Rattle.law_model.specs.Common.{BackCell, told_in, used_in}
 use Rattle.terminal_source.specs.source_core.Terminal.{needed_at}
 use Rattle.law_model.proofs.ListLaws.{slice_get-drop, take-next, slice_get-inside}
 use Rattle.law_walk.proofs.WalkRingAndWaitingTakeLaws.{used-next}
-use Rattle.terminal_group.specs.Source.{missing_by, Source, held_in, early_in}
+use Rattle.terminal_group.specs.Source.{missing_by}
 use Rattle.terminal_group.specs.ReturnInbox.{is_lost_in, Inbox, come_by, come_from, told_from, told_taken, with_come}
 use Rattle.terminal_group.specs.ReturnInbox.{cell_for, rest_for, HasCome, Takes}
-use Rattle.terminal_group.specs.declared.group_source.EarlyCause.{EarlyCause}
-use Rattle.terminal_group.specs.declared.group_source.EarlyCause.TheVariants.{Done, Held}
 
 -- ---- Return cells that have come, and those that decision steps have taken.
 pub come-append : (lost : List (ℕ × ℕ)) (k : ℕ) (xs ys : List BackCell) →
@@ -161,43 +158,6 @@ pub cell-for : (need : Option ℕ) (cells : List BackCell) → missing_by need c
 cell-for None cells none = refl
 cell-for (Some packet) [] none = absurd cc
 cell-for (Some packet) (cell ∷ cells) none = refl
-
--- ---- Why a source makes no frame, and what stands where it may.
--- the first of the two causes
-abbrev early_by : Bool → Option ℕ → Option EarlyCause
-early_by done held = if done then Some Done else option_map Held held
-
-by-none : (done : Bool) (held : Option ℕ) → early_by done held ≡ None → (done ≡ false) × (held ≡ None)
-by-none true held e = absurd cc
-by-none false None e = (refl, refl)
-by-none false (Some item) e = absurd cc
-
-by-done : (done : Bool) (held : Option ℕ) → early_by done held ≡ Some Done → done ≡ true
-by-done true held e = refl
-by-done false None e = absurd cc
-by-done false (Some item) e = absurd cc
-
-by-held : (done : Bool) (held : Option ℕ) (item : ℕ) → early_by done held ≡ Some (Held item) → (done ≡ false) ×
-    (held ≡ Some item)
-by-held true held item e = absurd cc
-by-held false None item e = absurd cc
-by-held false (Some other) item e = (refl, cc)
-
-pub early-none : (source : Source) → early_in source ≡ None → (source.core.ticks < source.total) ×
-    (held_in source ≡ None)
-early-none source e =
-    let (left, none) = by-none (nat_le source.total source.core.ticks) (held_in source) e in
-    (leb-false source.total source.core.ticks left, none)
-
-pub early-done : (source : Source) → early_in source ≡ Some Done → source.total ≤ source.core.ticks
-early-done source e = leb-true source.total source.core.ticks
-    (by-done (nat_le source.total source.core.ticks) (held_in source) e)
-
-pub early-held : (source : Source) (item : ℕ) → early_in source ≡ Some (Held item) →
-    (source.core.ticks < source.total) × (held_in source ≡ Some item)
-early-held source item e =
-    let (left, is) = by-held (nat_le source.total source.core.ticks) (held_in source) item e in
-    (leb-false source.total source.core.ticks left, is)
 
 -- a return cell that is missing is needed, and the inbox holds none
 pub missing-some : (need : Option ℕ) (cells : List BackCell) (packet : ℕ) → missing_by need cells ≡ Some packet →

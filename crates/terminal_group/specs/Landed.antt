@@ -54,14 +54,10 @@ due_in (Some item) = item.due
 abbrev pub due_at : List Item → ℕ → ℕ
 due_at items number = due_in (slice_get items number)
 
--- how many frames, or how many commands, have landed, and how many of them were refused
+-- how many frames, or how many commands, have landed
 abbrev pub landed_of : Landed → Bool → ℕ
 landed_of landed true = landed.frames
 landed_of landed false = landed.commands
-
-abbrev pub refused_of : Landed → Bool → ℕ
-refused_of landed true = landed.refused_frames
-refused_of landed false = landed.refused_commands
 
 -- one more has landed, a frame or a command, refused or not
 pub record HasPassed (was now : Landed) (client refused : Bool) : Type 0 where

@@ -1,6 +1,6 @@
 //! The source side of a group that keeps no items: its terminal, how much has landed, and the inbox.
 
-ghost use Rattle.std.specs.Prelude.{◌≡◌, ◌+◌, ◌<◌, ◌≤◌, List, Option, None, length, IsSome, IfOk, is_some};
+ghost use Rattle.std.specs.Prelude.{◌≡◌, ◌+◌, ◌<◌, List, Option, None, length, IsSome, IfOk, is_some};
 ghost use Rattle.member_cells.specs.HeldPlaces.{held};
 ghost use Rattle.law_model.specs.Common.{IsNetwork, Scenario, steps_in, Told, told_by, frame_of};
 ghost use Rattle.terminal_source.specs.source_core.Terminal.{SameKind, needed};
@@ -18,7 +18,6 @@ use law_model::{Config, Refusal};
 use member_cells::{BackCell, HeldContainer};
 use std::alloc::{AllocError, Global};
 use std::marker::Model;
-use terminal_source::lcas_source::SourceTable;
 use terminal_source::source_core::{Command, Packet, SourceCore};
 
 /// The source side of a group of which nobody says beforehand what lands. It takes the client's frames and the
@@ -65,13 +64,6 @@ impl CountedSource {
         })
     }
 
-    /// How many ticks were made.
-    pub fn ticks(&self) -> u32
-        ensures { result ≡ self.now.core.ticks }
-    {
-        self.core.ticks()
-    }
-
     /// How many ticks there are.
     pub fn total_ticks(&self) -> u32
         ensures { result ≡ self.now.total }
@@ -79,20 +71,11 @@ impl CountedSource {
         self.total
     }
 
-    /// The table of the lines.
-    pub fn table(&self) -> &SourceTable
-        ensures table { result.now ≡ self.now.core.table }
-        ensures steps { result.now.steps ≡ steps_in self.now.core.ticks }
+    /// The terminal.
+    pub fn core(&self) -> &SourceCore
+        ensures { result.now ≡ self.now.core }
     {
-        self.core.table()
-    }
-
-    /// How many frames wait, at most 256: those that were accepted and of which no octet is made.
-    pub fn waiting(&self) -> u16
-        ensures count { result ≡ length self.now.core.queue.waiting }
-        ensures most { result ≤ 256 }
-    {
-        self.core.waiting()
+        &self.core
     }
 
     /// How much has landed.
@@ -123,7 +106,7 @@ impl CountedSource {
         ensures { result ≡ met_by self.now.core (kind_of item.entry) }
     {
         match item {
-            ItemRef::Frame(octets) => self.core.frame_refusal(octets).map(Refusal::Frame),
+            ItemRef::Frame(octets) => self.core.queue().refusal(octets).map(Refusal::Frame),
             ItemRef::Add(line) => self
                 .core
                 .command_refusal(Command::Add(line))

@@ -1,10 +1,10 @@
 //! What lands next in a group, and what was refused.
 
-ghost use Rattle.std.specs.Prelude.{◌≡◌, ◌+◌, if◌then◌else◌, length, Some, IfOk, IfSome, is_some};
+ghost use Rattle.std.specs.Prelude.{◌≡◌, if◌then◌else◌, length, Some, IfOk, IfSome, is_some};
 ghost use Rattle.law_model.specs.Common.{IsValid, dues_of, held};
 ghost use Rattle.terminal_group.specs.Item.{bare_items};
 ghost use Rattle.law_walk.specs.Common.{IsPlaced, refused_by};
-ghost use Rattle.terminal_group.specs.Landed.{none_landed, next_place, next_number, due_at, landed_of, refused_of};
+ghost use Rattle.terminal_group.specs.Landed.{none_landed, next_place, next_number, due_at, landed_of};
 ghost use Rattle.terminal_group.specs.Landed.{HasPassed, IsReasonAt};
 
 use crate::bare_list::BareList;
@@ -124,17 +124,6 @@ impl Landing {
         ensures { result ≡ landed_of self.now client }
     {
         if client { self.frames } else { self.commands }
-    }
-
-    /// How many of them weren't refused.
-    pub fn accepted(&self, client: bool) -> u32
-        ensures { result + refused_of self.now client ≡ landed_of self.now client }
-    {
-        if client {
-            self.frames - self.refused_frames
-        } else {
-            self.commands - self.refused_commands
-        }
     }
 
     /// How many items were refused.

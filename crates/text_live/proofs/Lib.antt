@@ -1,3 +1,4 @@
 pub mod LiveCourseAndItemLaws
 pub mod LiveReaderStateLaws
+pub mod LinesBehindLaws
 pub mod LiveScriptSayingsLaws

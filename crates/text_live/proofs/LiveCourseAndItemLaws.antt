@@ -1,14 +1,14 @@
 -- What lines without a fault say all along: courses, failures and items that fit the configuration.
 use Rattle.std.proofs.Common.{◌≡◌, ℕ, zero, suc, ◌+◌, ◌-◌, ◌<◌, ◌≤◌, max, nat_lt, Bool, true, false, List, [], ◌∷◌}
 use Rattle.std.proofs.Common.{◌++◌, length, map, ap, ◌∙◌, arith, refl, slice_index_or, if◌then◌else◌, inl, inr, Option}
-use Rattle.std.proofs.Common.{None, Some, sym, subst, All, ◌==◌, nat_le, drop, slice_set, Ok, option_map, is_some}
+use Rattle.std.proofs.Common.{None, Some, sym, subst, All, ◌==◌, nat_le, slice_set, is_some}
 use Rattle.std.proofs.Common.{is_none, ltb-false, leb-false}
 use Rattle.std.proofs.lemmas.List.{length-append, append-nil, length-set, length-map, get_or-map}
 use Rattle.std.proofs.lemmas.List.Elements.{All-push, All-set, All-get_or, All-map}
 use Rattle.law_model.specs.Common.{AreWindows, slip_after, slip_of, HasFailures, Due, frame_due, command_due, due_of}
 use Rattle.law_model.specs.Common.{dues_of, frame_dues, command_dues, IsItem, IsKind, AreItems, IsNetwork}
 use Rattle.law_model.specs.declared.window_types.Window.{Window}
-use Rattle.text_scripts.specs.script_read.Statements.{last_end, words_fault, words_said, after}
+use Rattle.text_scripts.specs.script_read.Statements.{last_end}
 use Rattle.std.proofs.lemmas.Bool.{cases_lt, lt-ltb, le-ltb}
 use Rattle.law_live.specs.LiveSayings.{LineCourse, closed, cut_at, uncut, windows_by, Live, course_at, cuts, lands}
 use Rattle.law_live.specs.LiveSayings.{live_after, mends, opened, passes, with_course}
@@ -16,33 +16,25 @@ use Rattle.std.specs.List.Sorted.{IsNonDecreasing}
 use Rattle.law_model.specs.declared.script_types.Item.{Item}
 use Rattle.law_model.specs.declared.script_types.ItemKind.{ItemKind}
 use Rattle.text_scripts.proofs.ScriptDraftGrowthLaws.{All-none, rising-none, rising-one, most-one, most-up, frames-one}
-use Rattle.text_scripts.proofs.ScriptDraftGrowthLaws.{commands-one, IsDraft-first, IsDraft-after, IsValid-draft}
+use Rattle.text_scripts.proofs.ScriptDraftGrowthLaws.{commands-one, IsValid-draft}
 use Rattle.std.specs.Prelude.{IsSome}
 use Rattle.std.proofs.lemmas.Bool.Decides.{nat_tests}
 use Rattle.std.specs.Option.{option_or}
-use Rattle.text_lines.specs.WordsOfLine.{words, word_at, is_skipped, number_of}
+use Rattle.text_lines.specs.WordsOfLine.{word_at, number_of}
 use Rattle.text_lines.specs.Fields.{Field, within, digits, where_true, field_fault}
-use Rattle.text_lines.specs.Language.{said_from, unless_fault}
 use Rattle.text_lines.proofs.TextLineAndWordLaws.{or_none, where_none, map_none, number_ok, digits_ok}
 use Rattle.law_model.specs.declared.script_types.Config.{Config}
 use Rattle.text_scripts.specs.declared.script_read.script_draft.Draft.{Draft}
 use Rattle.text_scripts.specs.script_read.Script.{missing_line, config_fault}
 use Rattle.text_scripts.specs.script_read.Drafts.{IsDraft}
 use Rattle.text_scripts.proofs.ScriptLineAndFirstFaultLaws.{whole_config}
-use Rattle.text_scripts.proofs.StatementAndWordFaultLaws.{fits_words}
 use Rattle.text_live.specs.declared.live_keyword.LiveKeyword.{LiveKeyword}
-use Rattle.text_live.specs.declared.live_keyword.FirstWord.{FirstWord}
-use Rattle.text_live.specs.declared.live_keyword.EarlierPart.{EarlierPart}
 use Rattle.law_live.specs.Common.{CanCut, CanSay, IsOfLine, Saying}
 use Rattle.law_live.proofs.WellSaidLegAndWindowLaws.{ends-last}
-use Rattle.text_live.specs.LiveLines.{Said, LineWrong, of_script, of_limits, of_live, live_or, now_live, opening_fault}
 use Rattle.text_live.specs.LiveLines.{count_by, ended_fault, cut_fault, mend_fault, own_fault, word_fault, value_fault}
-use Rattle.text_live.specs.LiveLines.{count_fault, rest_fault, live_said}
-use Rattle.text_live.specs.LiveLines.{earlier_fault, fault_by, line_fault, live_told, told_by, said_with, line_after}
-use Rattle.text_live.specs.LiveLines.{first_of, nothing_said, live_lines}
+use Rattle.text_live.specs.LiveLines.{count_fault, rest_fault, live_said, live_told}
 use Rattle.law_model.specs.declared.script_types.ItemKind.TheVariants as kind
 use Rattle.text_live.specs.declared.live_keyword.LiveKeyword.TheVariants as word
-use Rattle.text_live.specs.declared.live_keyword.FirstWord.TheVariants as first
 use Rattle.text_live.specs.declared.live_fault.LiveLineFault.TheVariants as wrong
 use Rattle.law_model.specs.Common.{longest_offer, longest_slip, most_windows}
 
@@ -287,14 +279,6 @@ pub record HasLive (k : ℕ) (c : Config) (live : Live) : Type 0 where
   pub items : HasItems c.ticks live.passed live.items
   pub few : length live.items ≤ k
 
-abbrev pub HasLiveIf : ℕ → Config → Option Live → Type 0
-HasLiveIf k c None = Unit {0}
-HasLiveIf k c (Some live) = HasLive k c live
-
-pub record HasSaid (k : ℕ) (s : Said) : Type 0 where
-  pub draft : IsDraft s.settings
-  pub live : HasLiveIf k s.settings.config s.live
-
 -- ---- the first of them
 -- a draft without its items
 bare : Draft → Draft
@@ -333,14 +317,6 @@ has_opened k c network = record {
   items = no_items c.ticks 0;
   few = omega arith;
 }
-
-pub opening : (k : ℕ) (live : Option Live) (d : Draft) → IsDraft d → HasLiveIf k d.config live →
-    opening_fault live d ≡ None → HasLive k d.config (live_or live d.config)
-opening k (Some live) d is has none = has
-opening k None d is has none =
-    let parts = or_none (option_map of_script (missing_line d)) (option_map of_limits (config_fault d.config)) none in
-    has_opened k d.config (network_of d is (map_none of_script (missing_line d) parts.0)
-    (map_none of_limits (config_fault d.config) parts.1))
 
 -- ---- what the word of a live line says that has no fault
 pub word_fine : (f : Field) (at : ℕ) (w : List ℕ) → word_fault f at w ≡ None → field_fault f at 0 w ≡ None
@@ -499,10 +475,8 @@ has_after k c live (passes n) has can = record {
   few = omega (arith, has.few);
 }
 
--- ---- any line
-pub more_live : (k : ℕ) (c : Config) (live : Option Live) → HasLiveIf k c live → HasLiveIf (k + 1) c live
-more_live k c None has = tt
-more_live k c (Some live) has = record {
+pub live_later : (k : ℕ) (c : Config) (live : Live) → HasLive k c live → HasLive (k + 1) c live
+live_later k c live has = record {
   network = has.network;
   passed = has.passed;
   count = has.count;
@@ -511,74 +485,3 @@ more_live k c (Some live) has = record {
   items = has.items;
   few = omega (arith, has.few);
 }
-
-earlier_line : (k n : ℕ) (d : Draft) (live : Option Live) (p : EarlierPart) (ws : List (List ℕ)) → IsDraft d →
-    earlier_fault live d p ws ≡ None →
-    HasSaid (k + 1) (record { settings = after n d (words_said ws); live = live })
-earlier_line k n d (Some live) p ws is none = absurd cc
-earlier_line k n d None p ws is none = record {
-  draft = IsDraft-after n d (words_said ws) is (fits_words d ws is (map_none of_script (words_fault d ws) none));
-  live = tt;
-}
-
-by_first : (k n : ℕ) (s : Said) (ws : List (List ℕ)) (f : FirstWord) → HasSaid k s → fault_by s ws f ≡ None →
-    HasSaid (k + 1) (said_with n s ws (told_by ws f))
-by_first k n s ws (first.Earlier p) has none = earlier_line k n s.settings s.live p ws has.draft none
-by_first k n s ws (first.Live w) has none =
-    let parts = or_none (opening_fault s.live s.settings)
-    (option_map of_live (rest_fault s.settings.config (now_live s) w (drop 1 ws))) none in
-    let begun : HasLive k s.settings.config (now_live s) =
-    opening k s.live s.settings has.draft has.live parts.0 in
-    record {
-      draft = has.draft;
-      live = has_after k s.settings.config (now_live s) (live_told w (drop 1 ws)) begun
-          (can_say k s.settings.config (now_live s) w (drop 1 ws) begun
-          (map_none of_live (rest_fault s.settings.config (now_live s) w (drop 1 ws)) parts.1));
-    }
-by_first k n s ws first.Other has none = absurd cc
-
-by_skip : (k n : ℕ) (s : Said) (ws : List (List ℕ)) (skipped : Bool) → is_skipped ws ≡ skipped → HasSaid k s →
-    line_fault s ws ≡ None → HasSaid (k + 1) (line_after n s ws)
-by_skip k n s ws true is has none =
-    rw is (record { draft = has.draft; live = more_live k s.settings.config s.live has.live })
-by_skip k n s ws false is has none =
-    rw is (by_first k n s ws (first_of (word_at 0 ws)) has (rw is at none))
-
-pub one_line : (k n : ℕ) (s : Said) (ws : List (List ℕ)) → HasSaid k s → line_fault s ws ≡ None →
-    HasSaid (k + 1) (line_after n s ws)
-one_line k n s ws has none = by_skip k n s ws (is_skipped ws) refl has none
-
--- ---- the lines one after another
-pub begins : HasSaid 0 nothing_said
-begins = record { draft = IsDraft-first; live = tt }
-
--- what is said in the end, where nothing is missing
-pub record HasWhole (k : ℕ) (s : Said) : Type 0 where
-  pub draft : IsDraft s.settings
-  pub live : HasLive k s.settings.config (now_live s)
-
-at_end : (k n : ℕ) (s now : Said) (found : Option LineWrong) → opening_fault s.live s.settings ≡ found → HasSaid k s →
-    unless_fault n found (Ok s) ≡ Ok now → HasWhole k now
-at_end k n s now None is has e =
-    let same : s ≡ now = cc in
-    subst (HasWhole k) same (record { draft = has.draft; live = opening k s.live s.settings has.draft has.live is })
-at_end k n s now (Some wrong) is has e = absurd cc
-
-one_more : (k n : ℕ) (l : List ℕ) (ls : List (List ℕ)) (s now : Said) (found : Option LineWrong) →
-    line_fault s (words l) ≡ found → HasSaid k s →
-    ((t : Said) → HasSaid (k + 1) t → said_from live_lines (n + 1) t ls ≡ Ok now → HasWhole (k + 1 + length ls) now) →
-    unless_fault n found (said_from live_lines (n + 1) (line_after n s (words l)) ls) ≡ Ok now →
-    HasWhole (k + length (l ∷ ls)) now
-one_more k n l ls s now None is has rest e =
-    subst (λ (j : ℕ). HasWhole j now) (let same : k + 1 + length ls ≡ k + length (l ∷ ls) = omega arith in same)
-    (rest (line_after n s (words l)) (one_line k n s (words l) has is) e)
-one_more k n l ls s now (Some wrong) is has rest e = absurd cc
-
-pub all_lines : (k n : ℕ) (ls : List (List ℕ)) (s now : Said) → HasSaid k s → said_from live_lines n s ls ≡ Ok now →
-    HasWhole (k + length ls) now
-unfolding said_from
-all_lines k n [] s now has e =
-    subst (λ (j : ℕ). HasWhole j now) (let same : k ≡ k + 0 = omega arith in same)
-    (at_end k n s now (opening_fault s.live s.settings) refl has e)
-all_lines k n (l ∷ ls) s now has e =
-    one_more k n l ls s now (line_fault s (words l)) refl has (λ t. all_lines (k + 1) (n + 1) ls t now) e

@@ -1,7 +1,7 @@
 -- What a reader of live lines keeps and tells stands for what these lines say, also of digits of a frame.
 use Rattle.std.proofs.Common.{◌≡◌, ◌∙◌, ℕ, ◌+◌, ◌-◌, ◌<◌, List, [], ◌∷◌, ◌++◌, length, map, ap, ap₂, sym, subst, arith}
 use Rattle.std.proofs.Common.{refl, inl, inr, slice_index_or, slice_set, Option, None, Some, All, Bool, true, false}
-use Rattle.std.proofs.Common.{option_map, is_none, if◌then◌else◌, Result, Ok, Err, IfErr, ◌≢◌, ◌/◌, ◌≤◌, nat_le, ◌&&◌}
+use Rattle.std.proofs.Common.{option_map, is_none, if◌then◌else◌, Ok, ◌≢◌, ◌/◌, ◌≤◌, nat_le, ◌&&◌}
 use Rattle.std.proofs.Common.{◌==◌, not, take, get_or, slice_index}
 use Rattle.std.specs.Option.{option_or}
 use Rattle.std.proofs.lemmas.Bool.{cases_lt, lt-ltb, le-ltb}
@@ -17,13 +17,12 @@ use Rattle.text_live.specs.declared.read_live_line.LiveState.{LiveState}
 use Rattle.law_live.specs.LiveSayings.{LineCourse, Live, closed, course_at, cut_at, cuts, live_after, mends, uncut}
 use Rattle.law_live.specs.LiveSayings.{Saying, windows_by, with_course}
 use Rattle.text_live.specs.LiveLines.{happens, word_fault, own_fault, cut_fault, cut_fault_by, mend_fault}
-use Rattle.text_live.specs.LiveLines.{mend_fault_by, Said, LineWrong, of_live, Told, nothing, now_live, opening_fault}
+use Rattle.text_live.specs.LiveLines.{mend_fault_by, Said, LineWrong, of_live, nothing, now_live, opening_fault}
 use Rattle.text_live.specs.LiveLines.{rest_fault, value_fault, fault_by, line_fault, told_by, told, first_of}
-use Rattle.text_live.specs.LiveLines.{live_said, live_told, with_live}
-use Rattle.text_live.specs.LiveLines.{said_with, line_after}
+use Rattle.text_live.specs.LiveLines.{live_said, live_told, with_live, said_with}
 use Rattle.text_live.specs.LiveReaderStands.{Keeps, IsKept, HasFew, Reads, mended_by, mended_state, state_of, IsToldAt}
 use Rattle.text_live.specs.LiveReaderStands.{IsAt, ReadsLine, Stops, Says, failure as reader_failure}
-use Rattle.text_live.specs.LiveReaderStands.{line_at, told_line, frame_of, HandsOut, opened_said, IsLiveLine}
+use Rattle.text_live.specs.LiveReaderStands.{line_at, frame_of, HandsOut, opened_said, IsLiveLine}
 use Rattle.law_model.specs.Common.{IsNetwork, longest_offer}
 use Rattle.std.proofs.lemmas.List.Elements.{All-map, All-push}
 use Rattle.text_live.proofs.LiveCourseAndItemLaws.{failure, last_end-one}
@@ -184,63 +183,43 @@ opened_kept state c lists network all lines ticks passed =
     }
 
 -- ---- What a reader tells of a line, by what its parts tell.
--- ---- by the first word of a line
-abbrev fault_if : Said → List (List ℕ) → Bool → Option LineWrong
-fault_if s ws skipped = if skipped then None else fault_by s ws (first_of (word_at 0 ws))
-
-abbrev told_if : List (List ℕ) → Bool → Told
-told_if ws skipped = if skipped then nothing else told_by ws (first_of (word_at 0 ws))
-
-fault_first : (s : Said) (ws : List (List ℕ)) (f : FirstWord) → is_skipped ws ≡ false → first_of (word_at 0 ws) ≡ f →
-    line_fault s ws ≡ fault_by s ws f
-fault_first s ws f said is = ap (fault_if s ws) said ∙ ap (fault_by s ws) is
-
-told_first : (ws : List (List ℕ)) (f : FirstWord) → is_skipped ws ≡ false → first_of (word_at 0 ws) ≡ f →
-    told ws ≡ told_by ws f
-told_first ws f said is = ap (told_if ws) said ∙ ap (told_by ws) is
-
 -- ---- a live line
-abbrev live_with : Said → LiveKeyword → List (List ℕ) → Option LineWrong → Option LineWrong
+pub by_keyword : {A : Type 0} (none : A) (by : FirstWord → A) (ws rest : List (List ℕ)) (k : LiveKeyword) →
+    IsLiveLine ws k rest → (if is_skipped ws then none else by (first_of (word_at 0 ws))) ≡ by (first.Live k)
+by_keyword none by ws rest k is =
+    ap (λ (skipped : Bool). if skipped then none else by (first_of (word_at 0 ws))) is.said ∙ ap by is.first
+
+abbrev pub live_with : Said → LiveKeyword → List (List ℕ) → Option LineWrong → Option LineWrong
 live_with s k ws opening = option_or opening (option_map of_live (rest_fault s.settings.config (now_live s) k ws))
 
 live_fault : (s : Said) (ws rest : List (List ℕ)) (k : LiveKeyword) → IsLiveLine ws k rest →
     line_fault s ws ≡ live_with s k rest (opening_fault s.live s.settings)
 live_fault s ws rest k is =
-    fault_first s ws (first.Live k) is.said is.first
+    by_keyword None (fault_by s ws) ws rest k is
     ∙ ap (λ (ws : List (List ℕ)). live_with s k ws (opening_fault s.live s.settings)) is.others
 
+live_told_by : (ws rest : List (List ℕ)) (k : LiveKeyword) → IsLiveLine ws k rest → told ws ≡ happens (live_told k rest)
+live_told_by ws rest k is =
+    by_keyword nothing (told_by ws) ws rest k is ∙ ap (λ (ws : List (List ℕ)). happens (live_told k ws)) is.others
+
 pub opening_stops : (n : ℕ) (s : Said) (ws rest : List (List ℕ)) (k : LiveKeyword) (f : LiveFault) →
-    IsLiveLine ws k rest → IsToldAt n (opening_fault s.live s.settings) f → IsToldAt n (line_fault s ws) f
-opening_stops n s ws rest k f is told = record {
-  wrong = told.wrong;
-  fails = live_fault s ws rest k is ∙ ap (live_with s k rest) told.fails;
-  is = told.is;
-}
+    IsLiveLine ws k rest → IsToldAt n (opening_fault s.live s.settings) f → Stops n s ws f
+opening_stops n s ws rest k f is told =
+    inr (record {
+      wrong = told.wrong;
+      fails = live_fault s ws rest k is ∙ ap (live_with s k rest) told.fails;
+      is = told.is;
+    })
 
 pub rest_stops : (n : ℕ) (s : Said) (ws rest : List (List ℕ)) (k : LiveKeyword) (f : LiveLineFault) →
     IsLiveLine ws k rest → opening_fault s.live s.settings ≡ None →
-    rest_fault s.settings.config (now_live s) k rest ≡ Some f → IsToldAt n (line_fault s ws) (fault.Line n f)
-rest_stops n s ws rest k f is none found = record {
-  wrong = of_live f;
-  fails = live_fault s ws rest k is ∙ ap (live_with s k rest) none ∙ ap (option_map of_live) found;
-  is = refl;
-}
-
-pub live_line_after : (n : ℕ) (s : Said) (ws rest : List (List ℕ)) (k : LiveKeyword) → IsLiveLine ws k rest →
-    line_after n s ws ≡ with_live s (live_told k rest)
-live_line_after n s ws rest k is =
-    ap (said_with n s ws) (told_first ws (first.Live k) is.said is.first ∙ ap (λ r. happens (live_told k r)) is.others)
-
-pub reads_live : (now : LiveReader) (n : ℕ) (s : Said) (ws rest : List (List ℕ)) (k : LiveKeyword) (said : LiveLine) →
-    IsLiveLine ws k rest → opening_fault s.live s.settings ≡ None →
-    rest_fault s.settings.config (now_live s) k rest ≡ None → told_line (frame_of now) said ≡ happens (live_told k rest) →
-    IsAt now (n + 1) (with_live s (live_told k rest)) → HandsOut now s → ReadsLine now n s ws said
-reads_live now n s ws rest k said is begun none says at hands = record {
-  fine = live_fault s ws rest k is ∙ ap (live_with s k rest) begun ∙ ap (option_map of_live) none;
-  told = says ∙ sym (told_first ws (first.Live k) is.said is.first ∙ ap (λ r. happens (live_told k r)) is.others);
-  at = subst (IsAt now (n + 1)) (sym (live_line_after n s ws rest k is)) at;
-  opens = λ live begun. hands;
-}
+    rest_fault s.settings.config (now_live s) k rest ≡ Some f → Stops n s ws (fault.Line n f)
+rest_stops n s ws rest k f is none found =
+    inr (record {
+      wrong = of_live f;
+      fails = live_fault s ws rest k is ∙ ap (live_with s k rest) none ∙ ap (option_map of_live) found;
+      is = refl;
+    })
 
 -- the line has one word
 pub one_fine : (c : Config) (live : Live) (k : LiveKeyword) (ws : List (List ℕ)) (w : List ℕ) → ws ≡ w ∷ [] →
@@ -272,37 +251,29 @@ pub says_begun : (settings : Option ScriptReader) (state : LiveState) (s : Said)
 says_begun None state s begun says = says
 says_begun (Some reader) state s begun says = absurd cc
 
-pub live_stops : (n : ℕ) (s : Said) (ws : List (List ℕ)) (read : Result LiveLine LiveFault) →
-    IfErr read (λ stop. IsToldAt n (line_fault s ws) stop) → IfErr read (λ stop. Stops n s ws stop)
-live_stops n s ws (Ok said) told = tt
-live_stops n s ws (Err stop) told = inr told
-
--- a reader whose live lines have begun
-pub reads_begun : (now : LiveReader) (n : ℕ) (s : Said) (rest : List (List ℕ)) (k : LiveKeyword) →
-    reader_failure now ≡ None → line_at now ≡ n → is_none now.settings ≡ true →
-    Keeps now.state s.settings.config (live_after (now_live s) (live_told k rest)) →
-    IsAt now n (with_live s (live_told k rest))
-reads_begun now n s rest k goes number begun keeps = record {
-  goes_on = goes;
-  number = number;
-  says = says_begun now.settings now.state (with_live s (live_told k rest)) begun
-      (live_after (now_live s) (live_told k rest), refl, keeps);
-}
-
--- a live line of one word
-pub reads_one : (now : LiveReader) (n : ℕ) (s : Said) (ws rest : List (List ℕ)) (k : LiveKeyword) (w : List ℕ)
+pub reads_live : (now : LiveReader) (n : ℕ) (s : Said) (ws rest : List (List ℕ)) (k : LiveKeyword) (w : List ℕ)
     (said : LiveLine) → IsLiveLine ws k rest → opening_fault s.live s.settings ≡ None → rest ≡ w ∷ [] →
-    value_fault s.settings.config (now_live s) k 2 w ≡ None → told_line (frame_of now) said ≡ happens (live_said k w) →
-    reader_failure now ≡ None → line_at now ≡ n + 1 → is_none now.settings ≡ true →
-    Keeps now.state s.settings.config (live_after (now_live s) (live_said k w)) → HandsOut now s →
-    ReadsLine now n s ws said
-reads_one now n s ws rest k w said is whole one none told goes number begun keeps hands =
+    Reads now.state (frame_of now) s.settings.config (now_live s) k 2 w said → reader_failure now ≡ None →
+    line_at now ≡ n + 1 → is_none now.settings ≡ true → HandsOut now s → ReadsLine now n s ws said
+reads_live now n s ws rest k w said is whole one read goes number begun hands =
     let same : live_said k w ≡ live_told k rest = sym (ap (live_told k) one) in
-    reads_live now n s ws rest k said is whole (one_fine s.settings.config (now_live s) k rest w one none)
-    (told ∙ ap (λ (saying : Saying). happens saying) same)
-    (reads_begun now (n + 1) s rest k goes number begun
-    (subst (λ (saying : Saying). Keeps now.state s.settings.config (live_after (now_live s) saying)) same keeps))
-    hands
+    record {
+      fine = live_fault s ws rest k is ∙ ap (live_with s k rest) whole
+          ∙ ap (option_map of_live) (one_fine s.settings.config (now_live s) k rest w one read.fine);
+      told = read.told ∙ ap (λ (saying : Saying). happens saying) same ∙ sym (live_told_by ws rest k is);
+      at = subst (IsAt now (n + 1)) (ap (said_with n s ws) (sym (live_told_by ws rest k is)))
+          (record {
+            goes_on = goes;
+            number = number;
+            says = says_begun now.settings now.state (with_live s (live_told k rest)) begun (
+              live_after (now_live s) (live_told k rest),
+              refl,
+              subst (λ (saying : Saying). Keeps now.state s.settings.config (live_after (now_live s) saying)) same
+                  read.keeps,
+            );
+          });
+      opens = λ live begun. hands;
+    }
 
 -- what is kept is what is said by now
 pub kept_by : (state : LiveState) (s : Said) → Begins state (opened_said s) → Keeps state s.settings.config (now_live s)

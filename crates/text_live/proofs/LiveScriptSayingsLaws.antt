@@ -1,13 +1,12 @@
 -- What lines without a fault say one after another: sayings, their leg, and a script, which is valid.
 use Rattle.std.proofs.Common.{◌≡◌, ◌∙◌, ℕ, ◌+◌, ◌≤◌, Bool, true, false, List, [], ◌∷◌, ◌++◌, length, ap, sym, subst}
-use Rattle.std.proofs.Common.{arith, refl, append_assoc, length-append, Option, None, Some, Result, Ok, Err, drop, ◌/◌}
+use Rattle.std.proofs.Common.{arith, refl, length-append, Option, None, Some, Result, Ok, Err, drop, ◌/◌}
 use Rattle.std.proofs.Common.{◌%◌, ◌<◌, ◌==◌, max, map, replicate, All, if◌then◌else◌}
-use Rattle.std.specs.Prelude.{flat_map, option_map}
+use Rattle.std.specs.Prelude.{option_map}
 use Rattle.std.proofs.lemmas.List.{append-nil, length-map}
 use Rattle.std.proofs.lemmas.List.Concat.{flat_map-append}
 use Rattle.text_lines.specs.WordsOfLine.{words, word_at, is_skipped}
-use Rattle.text_lines.specs.Language.{said_from, unless_fault}
-use Rattle.text_lines.specs.FirstFault.{AreSound}
+use Rattle.text_lines.specs.Language.{said_from}
 use Rattle.text_lines.specs.LanguageTable.{formed}
 use Rattle.text_lines.proofs.TextLineAndWordLaws.{or_none, map_none}
 use Rattle.law_model.specs.Common.{IsNetwork, leg_of, longest_input, IsValid, HasFewLosses, HasFailures, IsEvent}
@@ -16,26 +15,32 @@ use Rattle.law_model.specs.Common.{command_dues, slip_after, most_count}
 use Rattle.law_model.specs.declared.script_types.Config.{Config}
 use Rattle.law_model.specs.declared.script_types.Script.{Script}
 use Rattle.text_scripts.specs.declared.script_read.script_draft.Draft.{Draft}
-use Rattle.text_scripts.specs.script_read.Statements.{words_said, after}
+use Rattle.text_scripts.specs.script_read.Statements.{words_fault, words_said, after}
+use Rattle.text_scripts.specs.script_read.Script.{missing_line, config_fault}
+use Rattle.text_scripts.specs.script_read.Drafts.{IsDraft}
 use Rattle.law_live.specs.LiveSayings.{live_from, LineCourse, commands_in, frames_in, windows_by}
 use Rattle.law_live.specs.WellSaid.{CanSayAll}
 use Rattle.law_live.specs.Common.{CanSay, IsWellSaid, Live, Saying, live_after, live_of, opened}
 use Rattle.law_live.proofs.AgreeingLegConversationLaws.{live-more}
 use Rattle.text_live.specs.declared.live_keyword.EarlierPart.{EarlierPart}
 use Rattle.text_live.specs.declared.live_keyword.FirstWord.{FirstWord}
-use Rattle.text_live.specs.LiveLines.{Told, happens, Said, LineWrong, of_live, live_or, now_live, opening_fault}
+use Rattle.text_live.specs.LiveLines.{Said, LineWrong, of_script, of_limits, of_live, setting, live_or, now_live}
+use Rattle.text_live.specs.LiveLines.{opening_fault}
 use Rattle.text_live.specs.LiveLines.{rest_fault, earlier_fault, fault_by, line_fault, first_of, live_told, told}
 use Rattle.text_live.specs.LiveLines.{told_by, said_with, line_after, nothing_said, live_lines}
 use Rattle.text_live.specs.LiveScript.{script_in, script_of_live}
-use Rattle.text_live.specs.Sayings.{AgreesWith, AreFine, AreFineFrom, leg_in, line_saying, said_behind, said_in}
+use Rattle.text_live.specs.Sayings.{AgreesWith, AreFine, leg_in, line_saying, said_in}
 use Rattle.text_live.specs.Sayings.{said_with_line, saying_of, sayings}
-use Rattle.text_live.proofs.LiveCourseAndItemLaws.{HasLive, HasLiveIf, HasSaid, begins, can_say, one_line, opening}
-use Rattle.text_live.proofs.LiveCourseAndItemLaws.{failures-by, slip-by, HasWhole, course_slip, all_lines}
+use Rattle.text_live.proofs.LiveCourseAndItemLaws.{HasLive, can_say, course_slip, failures-by, has_after, has_opened}
+use Rattle.text_live.proofs.LiveCourseAndItemLaws.{live_later, network_of, slip-by}
+use Rattle.text_live.proofs.LinesBehindLaws.{all_fine, all_speak, behind_more, fine_front, fine_less, fine_more, none_fine}
+use Rattle.text_live.proofs.LinesBehindLaws.{says_all}
 use Rattle.std.proofs.lemmas.Bool.Decides.{nat_tests}
 use Rattle.std.proofs.lemmas.List.Elements.{All-append, All-replicate, All-map, All-cons}
 use Rattle.law_model.specs.declared.script_types.EventLine.{EventLine}
 use Rattle.law_model.specs.declared.script_types.EventLine.TheVariants.{Client, Operator, Round}
-use Rattle.text_scripts.proofs.ScriptDraftGrowthLaws.{All-none}
+use Rattle.text_scripts.proofs.ScriptDraftGrowthLaws.{All-none, IsDraft-first, IsDraft-after}
+use Rattle.text_scripts.proofs.StatementAndWordFaultLaws.{fits_words}
 use Rattle.law_live.specs.ScriptOfSayings.{config_by, counted, events_by}
 use Rattle.hex.specs.Hex.{decode_pairs}
 use Rattle.law_live.specs.LiveAnswers.{answers, answers_from}
@@ -43,116 +48,138 @@ use Rattle.text_live.specs.WorkedLiveTexts.{frame_lines, frame_script, cut_lines
 use Rattle.text_live.specs.WorkedLiveTexts.{refused_lines}
 use Rattle.text_live.specs.declared.live_keyword.FirstWord.TheVariants as first
 
--- ---- What lines without a fault say, one after another: what happens so that it can happen, and the leg of it all.
--- ---- so far
-abbrev pub Tells : Config → List Saying → Option Live → Type 0
-Tells c said None = said ≡ []
-Tells c said (Some live) = CanSayAll c.ticks (opened c) said × (live ≡ live_of c said)
+-- ---- What is said of one way over its configuration, so that it can happen, and how it stands then.
+pub record Stands (k : ℕ) (c : Config) (said : List Saying) (live : Live) : Type 0 where
+  pub has : HasLive k c live
+  pub each : CanSayAll c.ticks (opened c) said
+  pub is : live ≡ live_of c said
 
-can_more : (ticks : ℕ) (said : List Saying) (saying : Saying) (live : Live) → CanSayAll ticks live said →
-    CanSay ticks (live_from live said) saying → CanSayAll ticks live (said ++ saying ∷ [])
+pub stands_opened : (k : ℕ) (c : Config) → IsNetwork c → Stands k c [] (opened c)
 unfolding CanSayAll live_from
-can_more ticks [] saying live all can = (can, tt)
-can_more ticks (s ∷ said) saying live all can = (all.0, can_more ticks said saying (live_after live s) all.1 can)
+stands_opened k c network = record { has = has_opened k c network; each = tt; is = refl }
 
-begun_as : (c : Config) (said : List Saying) (found : Option Live) → Tells c said found →
-    CanSayAll c.ticks (opened c) said × (live_or found c ≡ live_of c said)
+pub stands_later : (k : ℕ) (c : Config) (said : List Saying) (live : Live) → Stands k c said live →
+    Stands (k + 1) c said live
+stands_later k c said live stands =
+    record { has = live_later k c live stands.has; each = stands.each; is = stands.is }
+
+-- ---- at most one thing more
+can_more : (ticks : ℕ) (said more : List Saying) (live : Live) → CanSayAll ticks live said →
+    CanSayAll ticks (live_from live said) more → CanSayAll ticks live (said ++ more)
 unfolding CanSayAll live_from
-begun_as c said None none = rw none (tt, refl)
-begun_as c said (Some live) tells = tells
+can_more ticks [] more live all can = can
+can_more ticks (s ∷ said) more live all can = (all.0, can_more ticks said more (live_after live s) all.1 can)
 
-told_one : (c : Config) (said : List Saying) (saying : Saying) (live : Live) → CanSayAll c.ticks (opened c) said →
-    live ≡ live_of c said → CanSay c.ticks live saying →
-    CanSayAll c.ticks (opened c) (said ++ saying ∷ []) × (live_after live saying ≡ live_of c (said ++ saying ∷ []))
-unfolding live_from
-told_one c said saying live all is can = (
-  can_more c.ticks said saying (opened c) all (subst (λ (l : Live). CanSay c.ticks l saying) is can),
-  ap (λ (l : Live). live_after l saying) is ∙ sym (live-more (opened c) said (saying ∷ [])),
-)
+has_more : (k : ℕ) (c : Config) (live : Live) (more : List Saying) → length more ≤ 1 → HasLive k c live →
+    CanSayAll c.ticks live more → HasLive (k + 1) c (live_from live more)
+unfolding CanSayAll live_from
+has_more k c live [] one has can = live_later k c live has
+has_more k c live (s ∷ []) one has can = has_after k c live s has can.0
+has_more k c live (s ∷ t ∷ more) one has can = absurd (omega (arith, one))
 
--- ---- one more line
-no_more : (c : Config) (said : List Saying) (live : Option Live) → Tells c said live → Tells c (said ++ []) live
-no_more c said live tells = subst (λ (l : List Saying). Tells c l live) (sym (append-nil said)) tells
-
-tells_earlier : (n : ℕ) (d : Draft) (live : Option Live) (p : EarlierPart) (ws : List (List ℕ)) (said : List Saying) →
-    Tells d.config said live → earlier_fault live d p ws ≡ None →
-    Tells (after n d (words_said ws)).config (said ++ []) live
-tells_earlier n d (Some live) p ws said tells none = absurd cc
-tells_earlier n d None p ws said tells none = append-nil said ∙ tells
-
-tells_first : (k n : ℕ) (s : Said) (ws : List (List ℕ)) (f : FirstWord) (said : List Saying) → HasSaid k s →
-    Tells s.settings.config said s.live → fault_by s ws f ≡ None →
-    (let now : Said = said_with n s ws (told_by ws f) in
-    Tells now.settings.config (said ++ saying_of (told_by ws f)) now.live)
-tells_first k n s ws (first.Earlier p) said has tells none = tells_earlier n s.settings s.live p ws said tells none
-tells_first k n s ws (first.Live w) said has tells none =
-    let parts = or_none (opening_fault s.live s.settings)
-    (option_map of_live (rest_fault s.settings.config (now_live s) w (drop 1 ws))) none in
-    let begun : HasLive k s.settings.config (now_live s) =
-    opening k s.live s.settings has.draft has.live parts.0 in
-    let were = begun_as s.settings.config said s.live tells in
-    told_one s.settings.config said (live_told w (drop 1 ws)) (now_live s) were.0 were.1
-    (can_say k s.settings.config (now_live s) w (drop 1 ws) begun
-    (map_none of_live (rest_fault s.settings.config (now_live s) w (drop 1 ws)) parts.1))
-tells_first k n s ws first.Other said has tells none = absurd cc
-
-tells_skip : (k n : ℕ) (s : Said) (ws : List (List ℕ)) (skipped : Bool) (said : List Saying) → is_skipped ws ≡ skipped →
-    HasSaid k s → Tells s.settings.config said s.live → line_fault s ws ≡ None →
-    (let now : Said = line_after n s ws in Tells now.settings.config (said ++ saying_of (told ws)) now.live)
-tells_skip k n s ws true said is has tells none = rw is (no_more s.settings.config said s.live tells)
-tells_skip k n s ws false said is has tells none =
-    rw is (tells_first k n s ws (first_of (word_at 0 ws)) said has tells (rw is at none))
-
-few_of : (t : Told) → length (saying_of t) ≤ 1
-few_of (happens saying) = omega arith
-few_of t = omega arith
-
--- ---- the lines one after another
-pub record Speaks (k : ℕ) (s : Said) (said : List Saying) : Type 0 where
-  pub has : HasSaid k s
-  pub tells : Tells s.settings.config said s.live
-  pub few : length said ≤ k
-
-speaks_line : (k n : ℕ) (s : Said) (line : List ℕ) (said : List Saying) → Speaks k s said →
-    line_fault s (words line) ≡ None → Speaks (k + 1) (said_with_line n s line) (said ++ line_saying line)
-speaks_line k n s line said speaks none = record {
-  has = one_line k n s (words line) speaks.has none;
-  tells = tells_skip k n s (words line) (is_skipped (words line)) said refl speaks.has speaks.tells none;
-  few = omega (arith, speaks.few, length-append said (line_saying line), few_of (told (words line)));
+pub stands_more : (k : ℕ) (c : Config) (said more : List Saying) (live : Live) → length more ≤ 1 →
+    Stands k c said live → CanSayAll c.ticks live more → Stands (k + 1) c (said ++ more) (live_from live more)
+stands_more k c said more live one stands can = record {
+  has = has_more k c live more one stands.has can;
+  each = can_more c.ticks said more (opened c) stands.each
+      (subst (λ (l : Live). CanSayAll c.ticks l more) stands.is can);
+  is = ap (λ (l : Live). live_from l more) stands.is ∙ sym (live-more (opened c) said more);
 }
 
-speaks_all : (k n : ℕ) (s : Said) (ls : List (List ℕ)) (said : List Saying) → Speaks k s said → AreFineFrom n s ls →
-    Speaks (k + length ls) (said_behind n s ls) (said ++ flat_map line_saying ls)
-unfolding AreSound
-speaks_all k n s [] said speaks fine =
-    subst (λ (l : List Saying). Speaks (k + 0) s l) (sym (append-nil said))
-    (subst (λ (j : ℕ). Speaks j s said) (let same : k ≡ k + 0 = omega arith in same) speaks)
-speaks_all k n s (line ∷ ls) said speaks fine =
-    let rest = speaks_all (k + 1) (n + 1) (said_with_line n s line) ls (said ++ line_saying line)
-    (speaks_line k n s line said speaks fine.0) fine.1 in
-    subst (λ (l : List Saying). Speaks (k + length (line ∷ ls)) (said_behind n s (line ∷ ls)) l)
-    (append_assoc said (line_saying line) (flat_map line_saying ls))
-    (subst (λ (j : ℕ). Speaks j (said_behind n s (line ∷ ls))
-    ((said ++ line_saying line) ++ flat_map line_saying ls))
-    (let same : k + 1 + length ls ≡ k + length (line ∷ ls) = omega arith in same) rest)
+stands_one : (k : ℕ) (c : Config) (said : List Saying) (saying : Saying) (live : Live) → Stands k c said live →
+    CanSay c.ticks live saying → Stands (k + 1) c (said ++ saying ∷ []) (live_after live saying)
+unfolding CanSayAll live_from
+stands_one k c said saying live stands can = stands_more k c said (saying ∷ []) live (omega arith) stands (can, tt)
 
+-- ---- What lines without a fault say, one after another.
+abbrev pub StandsIf : ℕ → Config → List Saying → Option Live → Type 0
+StandsIf k c said None = said ≡ []
+StandsIf k c said (Some live) = Stands k c said live
+
+pub record Speaks (k : ℕ) (s : Said) (said : List Saying) : Type 0 where
+  pub draft : IsDraft s.settings
+  pub stands : StandsIf k s.settings.config said s.live
+  pub few : length said ≤ k
+
+opening : (k : ℕ) (d : Draft) (said : List Saying) (live : Option Live) → IsDraft d →
+    StandsIf k d.config said live → opening_fault live d ≡ None → Stands k d.config said (live_or live d.config)
+opening k d said (Some live) is stands none = stands
+opening k d said None is stands none =
+    let parts = or_none (option_map of_script (missing_line d)) (option_map of_limits (config_fault d.config)) none in
+    subst (λ (said : List Saying). Stands k d.config said (opened d.config)) (sym stands)
+    (stands_opened k d.config (network_of d is (map_none of_script (missing_line d) parts.0)
+    (map_none of_limits (config_fault d.config) parts.1)))
+
+-- ---- one more line, which says nothing that happens
+later : (k : ℕ) (c : Config) (said : List Saying) (live : Option Live) → StandsIf k c said live →
+    StandsIf (k + 1) c said live
+later k c said None stands = stands
+later k c said (Some live) stands = stands_later k c said live stands
+
+silent : (k : ℕ) (s : Said) (said : List Saying) → Speaks k s said → Speaks k s (said ++ [])
+silent k s said speaks = subst (Speaks k s) (sym (append-nil said)) speaks
+
+by_earlier : (k n : ℕ) (d : Draft) (live : Option Live) (p : EarlierPart) (ws : List (List ℕ)) (said : List Saying) →
+    Speaks k (record { settings = d; live = live }) said → earlier_fault live d p ws ≡ None →
+    Speaks (k + 1) (record { settings = after n d (words_said ws); live = live }) said
+by_earlier k n d (Some live) p ws said speaks none = absurd cc
+by_earlier k n d None p ws said speaks none = record {
+  draft = IsDraft-after n d (words_said ws) speaks.draft
+      (fits_words d ws speaks.draft (map_none of_script (words_fault d ws) none));
+  stands = speaks.stands;
+  few = omega (arith, speaks.few);
+}
+
+-- ---- or any
+by_first : (k n : ℕ) (s : Said) (ws : List (List ℕ)) (f : FirstWord) (said : List Saying) → Speaks k s said →
+    fault_by s ws f ≡ None → Speaks (k + 1) (said_with n s ws (told_by ws f)) (said ++ saying_of (told_by ws f))
+by_first k n s ws (first.Earlier p) said speaks none =
+    silent (k + 1) (said_with n s ws setting) said (by_earlier k n s.settings s.live p ws said speaks none)
+by_first k n s ws (first.Live w) said speaks none =
+    let c : Config = s.settings.config in
+    let parts = or_none (opening_fault s.live s.settings)
+    (option_map of_live (rest_fault c (now_live s) w (drop 1 ws))) none in
+    let begun = opening k s.settings said s.live speaks.draft speaks.stands parts.0 in
+    record {
+      draft = speaks.draft;
+      stands = stands_one k c said (live_told w (drop 1 ws)) (now_live s) begun
+          (can_say k c (now_live s) w (drop 1 ws) begun.has
+          (map_none of_live (rest_fault c (now_live s) w (drop 1 ws)) parts.1));
+      few = omega (arith, speaks.few, length-append said (live_told w (drop 1 ws) ∷ []));
+    }
+by_first k n s ws first.Other said speaks none = absurd cc
+
+by_skip : (k n : ℕ) (s : Said) (ws : List (List ℕ)) (skipped : Bool) (said : List Saying) → is_skipped ws ≡ skipped →
+    Speaks k s said → line_fault s ws ≡ None → Speaks (k + 1) (line_after n s ws) (said ++ saying_of (told ws))
+by_skip k n s ws true said is speaks none =
+    rw is
+    (silent (k + 1) s said
+    (record {
+      draft = speaks.draft;
+      stands = later k s.settings.config said s.live speaks.stands;
+      few = omega (arith, speaks.few);
+    }))
+by_skip k n s ws false said is speaks none =
+    rw is (by_first k n s ws (first_of (word_at 0 ws)) said speaks (rw is at none))
+
+-- ---- all lines
 pub speaks_in : (ls : List (List ℕ)) → AreFine nothing_said ls → Speaks (length ls) (said_in ls) (sayings ls)
 speaks_in ls fine =
-    subst (λ (j : ℕ). Speaks j (said_in ls) (sayings ls))
-    (let same : 0 + length ls ≡ length ls = omega arith in same)
-    (speaks_all 0 1 nothing_said ls [] (record { has = begins; tells = refl; few = omega arith }) fine)
+    all_speak live_lines line_saying Speaks
+    (λ k n s line said. by_skip k n s (words line) (is_skipped (words line)) said refl) ls
+    (record { draft = IsDraft-first; stands = refl; few = omega arith }) fine
 
-agrees_by : (k : ℕ) (s : Said) (said : List Saying) (live : Option Live) → HasLiveIf k s.settings.config live →
-    Tells s.settings.config said live → length said ≤ longest_input → AgreesWith s said live
-agrees_by k s said None has tells few = tells
-agrees_by k s said (Some live) has tells few = (has.network, record { each = tells.0; few = few }, tells.1)
+agrees_by : (k : ℕ) (s : Said) (said : List Saying) (live : Option Live) → StandsIf k s.settings.config said live →
+    length said ≤ longest_input → AgreesWith s said live
+agrees_by k s said None stands few = stands
+agrees_by k s said (Some live) stands few =
+    (stands.has.network, record { each = stands.each; few = few }, stands.is)
 
 pub lines_agree : (ls : List (List ℕ)) → AreFine nothing_said ls → length ls ≤ longest_input →
     AgreesWith (said_in ls) (sayings ls) (said_in ls).live
 lines_agree ls fine few =
     let speaks = speaks_in ls fine in
-    agrees_by (length ls) (said_in ls) (sayings ls) (said_in ls).live speaks.has.live speaks.tells
-    (omega (arith, few, speaks.few))
+    agrees_by (length ls) (said_in ls) (sayings ls) (said_in ls).live speaks.stands (omega (arith, few, speaks.few))
 
 -- and so at their end, where nothing is missing
 pub record IsAllSaid (c : Config) (live : Live) (said : List Saying) : Type 0 where
@@ -160,25 +187,26 @@ pub record IsAllSaid (c : Config) (live : Live) (said : List Saying) : Type 0 wh
   pub well : IsWellSaid c said
   pub stands : live ≡ live_of c said
 
+end_stands : (ls : List (List ℕ)) → AreFine nothing_said ls →
+    opening_fault (said_in ls).live (said_in ls).settings ≡ None →
+    Stands (length ls) (said_in ls).settings.config (sayings ls) (now_live (said_in ls))
+end_stands ls fine whole =
+    let s : Said = said_in ls in
+    let speaks = speaks_in ls fine in
+    opening (length ls) s.settings (sayings ls) s.live speaks.draft speaks.stands whole
+
 pub all_said : (ls : List (List ℕ)) → AreFine nothing_said ls → length ls ≤ longest_input →
     opening_fault (said_in ls).live (said_in ls).settings ≡ None →
     IsAllSaid (said_in ls).settings.config (now_live (said_in ls)) (sayings ls)
 all_said ls fine few whole =
-    let s : Said = said_in ls in
-    let speaks = speaks_in ls fine in
-    let were = begun_as s.settings.config (sayings ls) s.live speaks.tells in
+    let stands = end_stands ls fine whole in
     record {
-      network = (opening (length ls) s.live s.settings speaks.has.draft speaks.has.live whole).network;
-      well = record { each = were.0; few = omega (arith, few, speaks.few) };
-      stands = were.1;
+      network = stands.has.network;
+      well = record { each = stands.each; few = omega (arith, few, (speaks_in ls fine).few) };
+      stands = stands.is;
     }
 
 -- ---- behind a live line the configuration stays, and live lines have begun
-not_earlier : (found : Option Live) (live : Live) (d : Draft) (p : EarlierPart) (ws : List (List ℕ)) →
-    found ≡ Some live → earlier_fault found d p ws ≡ None → ⊥
-not_earlier None live d p ws is none = absurd cc
-not_earlier (Some other) live d p ws is none = absurd cc
-
 pub record IsSettled (s now : Said) : Type 0 where
   pub settings : now.settings ≡ s.settings
   pub live : Live
@@ -186,7 +214,8 @@ pub record IsSettled (s now : Said) : Type 0 where
 
 settled_first : (n : ℕ) (s : Said) (ws : List (List ℕ)) (f : FirstWord) (live : Live) → s.live ≡ Some live →
     fault_by s ws f ≡ None → IsSettled s (said_with n s ws (told_by ws f))
-settled_first n s ws (first.Earlier p) live is none = absurd (not_earlier s.live live s.settings p ws is none)
+settled_first n s ws (first.Earlier p) live is none =
+    absurd (let no = subst (λ (l : Option Live). earlier_fault l s.settings p ws ≡ None) is none in cc)
 settled_first n s ws (first.Live w) live is none =
     record { settings = refl; live = live_after (now_live s) (live_told w (drop 1 ws)); begun = refl }
 settled_first n s ws first.Other live is none = absurd cc
@@ -202,103 +231,56 @@ pub settled : (n : ℕ) (s : Said) (line : List ℕ) (live : Live) → s.live �
 settled n s line live is none = settled_skip n s (words line) (is_skipped (words line)) live refl is none
 
 -- ---- one line more
-fine_more : (n : ℕ) (s : Said) (ls : List (List ℕ)) (line : List ℕ) → AreFineFrom n s ls →
-    line_fault (said_behind n s ls) (words line) ≡ None → AreFineFrom n s (ls ++ line ∷ [])
-unfolding AreSound
-fine_more n s [] line fine none = (none, refl)
-fine_more n s (l ∷ ls) line fine none = (fine.0, fine_more (n + 1) (said_with_line n s l) ls line fine.1 none)
+pub nothing_fine : AreFine nothing_said []
+nothing_fine = none_fine live_lines 1 nothing_said
 
 pub more_fine : (ls : List (List ℕ)) (line : List ℕ) → AreFine nothing_said ls →
     line_fault (said_in ls) (words line) ≡ None → AreFine nothing_said (ls ++ line ∷ [])
-more_fine ls line fine none = fine_more 1 nothing_said ls line fine none
-
-fine_less : (n : ℕ) (s : Said) (ls : List (List ℕ)) (line : List ℕ) → AreFineFrom n s (ls ++ line ∷ []) →
-    AreFineFrom n s ls × (line_fault (said_behind n s ls) (words line) ≡ None)
-unfolding AreSound
-fine_less n s [] line fine = (refl, fine.0)
-fine_less n s (l ∷ ls) line fine =
-    let less = fine_less (n + 1) (said_with_line n s l) ls line fine.1 in
-    ((fine.0, less.0), less.1)
-
--- no line is faulty, nor one of the first of fine lines
-pub nothing_fine : AreFine nothing_said []
-unfolding AreSound
-nothing_fine = refl
-
-fine_front : (n : ℕ) (s : Said) (ls more : List (List ℕ)) → AreFineFrom n s (ls ++ more) → AreFineFrom n s ls
-unfolding AreSound
-fine_front n s [] more fine = refl
-fine_front n s (l ∷ ls) more fine = (fine.0, fine_front (n + 1) (said_with_line n s l) ls more fine.1)
-
-pub front_fine : (ls more : List (List ℕ)) → AreFine nothing_said (ls ++ more) → AreFine nothing_said ls
-front_fine ls more fine = fine_front 1 nothing_said ls more fine
+more_fine = fine_more live_lines 1 nothing_said
 
 pub less_fine : (ls : List (List ℕ)) (line : List ℕ) → AreFine nothing_said (ls ++ line ∷ []) →
     AreFine nothing_said ls × (line_fault (said_in ls) (words line) ≡ None)
-less_fine ls line fine = fine_less 1 nothing_said ls line fine
+less_fine = fine_less live_lines 1 nothing_said
 
-said_more : (n : ℕ) (s : Said) (ls : List (List ℕ)) (line : List ℕ) →
-    said_behind n s (ls ++ line ∷ []) ≡ said_with_line (length ls + n) (said_behind n s ls) line
-said_more n s [] line =
-    ap (λ (k : ℕ). said_with_line k s line) (let same : n ≡ length {A = List ℕ} [] + n = omega arith in same)
-said_more n s (l ∷ ls) line =
-    said_more (n + 1) (said_with_line n s l) ls line
-    ∙ ap (λ (k : ℕ). said_with_line k (said_behind n s (l ∷ ls)) line)
-    (let same : length ls + (n + 1) ≡ length (l ∷ ls) + n = omega arith in same)
+pub front_fine : (ls more : List (List ℕ)) → AreFine nothing_said (ls ++ more) → AreFine nothing_said ls
+front_fine = fine_front live_lines 1 nothing_said
 
 pub said_next : (ls : List (List ℕ)) (line : List ℕ) →
     said_in (ls ++ line ∷ []) ≡ said_with_line (length ls + 1) (said_in ls) line
-said_next ls line = said_more 1 nothing_said ls line
+said_next = behind_more live_lines 1 nothing_said
 
 pub sayings_next : (ls : List (List ℕ)) (line : List ℕ) → sayings (ls ++ line ∷ []) ≡ sayings ls ++ line_saying line
 sayings_next ls line =
     flat_map-append line_saying ls (line ∷ []) ∙ ap (λ (l : List Saying). sayings ls ++ l) (append-nil (line_saying line))
 
 -- ---- their script
-ends_as : (n : ℕ) (s now : Said) (found : Option LineWrong) → unless_fault n found (Ok s) ≡ Ok now → s ≡ now
-ends_as n s now None e = cc
-ends_as n s now (Some wrong) e = absurd cc
+abbrev IsMade : ℕ → List (List ℕ) → Script → Type 0
+IsMade rounds ls script =
+    AreFine nothing_said ls × (opening_fault (said_in ls).live (said_in ls).settings ≡ None)
+    × (script_in rounds (said_in ls) ≡ script)
 
-goes_as : (n : ℕ) (said : Result Said (ℕ × LineWrong)) (now : Said) (found : Option LineWrong) →
-    unless_fault n found said ≡ Ok now → said ≡ Ok now
-goes_as n said now None e = e
-goes_as n said now (Some wrong) e = absurd cc
-
-folded : (n : ℕ) (s : Said) (ls : List (List ℕ)) (now : Said) → said_from live_lines n s ls ≡ Ok now →
-    said_behind n s ls ≡ now
-unfolding said_from
-folded n s [] now e = ends_as n s now (opening_fault s.live s.settings) e
-folded n s (l ∷ ls) now e =
-    folded (n + 1) (said_with_line n s l) ls now
-    (goes_as n (said_from live_lines (n + 1) (said_with_line n s l) ls) now (line_fault s (words l)) e)
-
-leg_by_said : (rounds : ℕ) (ls : List (List ℕ)) (script : Script) (said : Result Said (ℕ × LineWrong)) →
-    said_from live_lines 1 nothing_said ls ≡ said → formed (script_in rounds) said ≡ Ok script →
-    leg_of script ≡ leg_in ls
-leg_by_said rounds ls script (Err at) is e = absurd cc
-leg_by_said rounds ls script (Ok now) is e =
-    let same : said_in ls ≡ now = folded 1 nothing_said ls now is in
+made_by : (rounds : ℕ) (ls : List (List ℕ)) (script : Script) (said : Result Said (ℕ × LineWrong)) →
+    said_from live_lines 1 nothing_said ls ≡ said → formed (script_in rounds) said ≡ Ok script → IsMade rounds ls script
+made_by rounds ls script (Err at) is e = absurd cc
+made_by rounds ls script (Ok now) is e =
+    let fine = all_fine live_lines 1 nothing_said now ls is in
     let made : script_in rounds now ≡ script = cc in
-    ap leg_of (sym made) ∙ ap (λ (s : Said). leg_of (script_in rounds s)) (sym same)
+    (fine.0, fine.1, ap (script_in rounds) fine.2 ∙ made)
+
+made_of : (rounds : ℕ) (ls : List (List ℕ)) (script : Script) → script_of_live rounds ls ≡ Ok script →
+    IsMade rounds ls script
+made_of rounds ls script e = made_by rounds ls script (said_from live_lines 1 nothing_said ls) refl e
 
 pub leg_live : (rounds : ℕ) (ls : List (List ℕ)) (script : Script) → script_of_live rounds ls ≡ Ok script →
     leg_of script ≡ leg_in ls
-leg_live rounds ls script e = leg_by_said rounds ls script (said_from live_lines 1 nothing_said ls) refl e
-
-says_all : (n : ℕ) (s : Said) (ls : List (List ℕ)) → AreFineFrom n s ls →
-    (let now : Said = said_behind n s ls in opening_fault now.live now.settings ≡ None →
-    said_from live_lines n s ls ≡ Ok now)
-unfolding said_from AreSound
-says_all n s [] fine whole = ap (λ (found : Option LineWrong). unless_fault n found (Ok s)) whole
-says_all n s (l ∷ ls) fine whole =
-    ap (λ (found : Option LineWrong). unless_fault n found (said_from live_lines (n + 1) (said_with_line n s l) ls)) fine.0
-    ∙ says_all (n + 1) (said_with_line n s l) ls fine.1 whole
+leg_live rounds ls script e = sym (ap leg_of (made_of rounds ls script e).2)
 
 pub script_live : (rounds : ℕ) (ls : List (List ℕ)) → AreFine nothing_said ls →
     opening_fault (said_in ls).live (said_in ls).settings ≡ None →
     script_of_live rounds ls ≡ Ok (script_in rounds (said_in ls))
 script_live rounds ls fine whole =
-    ap (λ (said : Result Said (ℕ × LineWrong)). formed (script_in rounds) said) (says_all 1 nothing_said ls fine whole)
+    ap (λ (said : Result Said (ℕ × LineWrong)). formed (script_in rounds) said)
+    (says_all live_lines 1 nothing_said ls fine whole)
 
 -- ---- The script of what lines without a fault say can be walked.
 -- ---- the configuration
@@ -313,7 +295,7 @@ greatest_same : (k : ℕ) (c : Config) (live : Live) → HasLive k c live →
     greatest_slip (config_by c live).windows ≡ greatest_slip c.windows
 greatest_same k c live has = ap greatest (same_slips live.passed live.courses ∙ has.slips)
 
-pub network_by : (k : ℕ) (c : Config) (live : Live) → HasLive k c live → IsNetwork (config_by c live)
+network_by : (k : ℕ) (c : Config) (live : Live) → HasLive k c live → IsNetwork (config_by c live)
 network_by k c live has =
     let same = greatest_same k c live has in
     record {
@@ -360,41 +342,32 @@ events lines rounds live =
     (counts lines Operator (max 1 (commands_in live)) (λ m is. is))
 
 -- ---- the script
-pub valid_said : (k rounds : ℕ) (s : Said) → HasWhole k s → k ≤ longest_input → IsValid (script_in rounds s)
-valid_said k rounds s has few = record {
+pub valid_by : (k : ℕ) (c : Config) (live : Live) (order : List EventLine) → HasLive k c live → k ≤ longest_input →
+    All (IsEvent c.lines) order →
+    IsValid (record { config = config_by c live; items = live.items; events = order })
+valid_by k c live order has few are = record {
   sound = record {
-    network = network_by k s.settings.config (now_live s) has.live;
-    items = has.live.items.are;
-    few = omega (arith, few, has.live.few);
+    network = network_by k c live has;
+    items = has.items.are;
+    few = omega (arith, few, has.few);
   };
-  events = events s.settings.config.lines rounds (now_live s);
+  events = are;
 }
-
-abbrev said_script : ℕ → Result Said (ℕ × LineWrong) → Result Script (ℕ × LineWrong)
-said_script rounds said = formed (script_in rounds) said
-
-whole_of : (rounds : ℕ) (ls : List (List ℕ)) (script : Script) (said : Result Said (ℕ × LineWrong)) →
-    said_from live_lines 1 nothing_said ls ≡ said → said_script rounds said ≡ Ok script →
-    (now : Said) × HasWhole (length ls) now × (script_in rounds now ≡ script)
-whole_of rounds ls script (Err at) is e = absurd cc
-whole_of rounds ls script (Ok now) is e = (
-  now,
-  subst (λ (k : ℕ). HasWhole k now) (let same : 0 + length ls ≡ length ls = omega arith in same)
-      (all_lines 0 1 ls nothing_said now begins is),
-  cc,
-)
 
 pub valid_live : (rounds : ℕ) (ls : List (List ℕ)) (script : Script) → length ls ≤ longest_input →
     script_of_live rounds ls ≡ Ok script → IsValid script
 valid_live rounds ls script few e =
-    let is = whole_of rounds ls script (said_from live_lines 1 nothing_said ls) refl e in
-    subst IsValid is.2 (valid_said (length ls) rounds is.0 is.1 few)
+    let made = made_of rounds ls script e in
+    let s : Said = said_in ls in
+    subst IsValid made.2
+    (valid_by (length ls) s.settings.config (now_live s) (events_by rounds (now_live s))
+    (end_stands ls made.0 made.1).has few (events s.settings.config.lines rounds (now_live s)))
 
 pub few_lost_live : (rounds : ℕ) (ls : List (List ℕ)) (script : Script) → script_of_live rounds ls ≡ Ok script →
     HasFewLosses script
 few_lost_live rounds ls script e =
-    let is = whole_of rounds ls script (said_from live_lines 1 nothing_said ls) refl e in
-    subst HasFewLosses is.2 is.1.draft.config.few_lost
+    let made = made_of rounds ls script e in
+    subst HasFewLosses made.2 (speaks_in ls made.0).draft.config.few_lost
 
 -- ---- The worked texts, by computation.
 pub frame_worked : script_of_live 43 frame_lines ≡ Ok frame_script

@@ -1,5 +1,5 @@
 -- Where a reader of a live text stands, and what it keeps of the lines of the group.
-use Rattle.std.specs.Prelude.{◌⊎◌, Bool, is_none, false, drop, if◌then◌else◌, nat_lt}
+use Rattle.std.specs.Prelude.{◌⊎◌, Bool, is_none, false, true, drop, if◌then◌else◌, nat_lt}
 use Rattle.text_lines.specs.WordsOfLine.{word_at, is_skipped}
 use Rattle.std.specs.Option.{option_or}
 use Rattle.text_lines.specs.Fields.{within, digits}
@@ -191,7 +191,7 @@ pub record IsLiveLine (ws : List (List ℕ)) (k : LiveKeyword) (rest : List (Lis
   pub first : first_of (word_at 0 ws) ≡ first.Live k
   pub others : drop 1 ws ≡ rest
 
--- those of a line that scripts have begin as such a line does
-pub record IsEarlierLine (ws : List (List ℕ)) (p : EarlierPart) : Type 0 where
-  pub said : is_skipped ws ≡ false
-  pub first : first_of (word_at 0 ws) ≡ first.Earlier p
+-- those of a line that says nothing; or they begin as a line of this part of a script does
+abbrev pub IsEarlierLine : List (List ℕ) → Option EarlierPart → Type 0
+IsEarlierLine ws None = is_skipped ws ≡ true
+IsEarlierLine ws (Some p) = (is_skipped ws ≡ false) × (first_of (word_at 0 ws) ≡ first.Earlier p)

@@ -1,10 +1,21 @@
 -- What lines of a live text say that happens, one after another, and the leg of a session of which they say all.
 use Rattle.std.specs.Prelude.{◌≡◌, ℕ, ◌+◌, List, [], ◌∷◌, flat_map, Option, Some, None}
 use Rattle.text_lines.specs.WordsOfLine.{words}
+use Rattle.text_lines.specs.Language.{Language}
 use Rattle.text_lines.specs.FirstFault.{AreSound}
 use Rattle.law_model.specs.Common.{IsNetwork, Leg}
 use Rattle.law_live.specs.Common.{IsWellSaid, Live, Saying, leg_by, live_of}
 use Rattle.text_live.specs.LiveLines.{Said, Told, nothing, setting, happens, told, line_after, live_lines, nothing_said, now_live}
+
+-- ---- lines of any language
+-- what is said with them, from line n on, behind others that say d
+abbrev pub behind : {D K : Type 0} → Language D K → ℕ → D → List (List ℕ) → D
+behind language n d [] = d
+behind language n d (line ∷ ls) = behind language (n + 1) (language.after n d (words line)) ls
+
+-- none of them is faulty behind those before it
+abbrev pub AreFineBehind : {D K : Type 0} → Language D K → ℕ → D → List (List ℕ) → Type 0
+AreFineBehind language n d ls = AreSound language n d ls (behind language n d ls)
 
 -- ---- what happens
 -- a line says at most that one thing does
@@ -23,20 +34,11 @@ sayings ls = flat_map line_saying ls
 abbrev pub said_with_line : ℕ → Said → List ℕ → Said
 said_with_line n s line = line_after n s (words line)
 
--- from line n on, behind others
-abbrev pub said_behind : ℕ → Said → List (List ℕ) → Said
-said_behind n s [] = s
-said_behind n s (line ∷ ls) = said_behind (n + 1) (said_with_line n s line) ls
-
 abbrev pub said_in : List (List ℕ) → Said
-said_in ls = said_behind 1 nothing_said ls
-
--- none of them is faulty behind those before it
-abbrev pub AreFineFrom : ℕ → Said → List (List ℕ) → Type 0
-AreFineFrom n s ls = AreSound live_lines n s ls (said_behind n s ls)
+said_in ls = behind live_lines 1 nothing_said ls
 
 abbrev pub AreFine : Said → List (List ℕ) → Type 0
-AreFine s ls = AreFineFrom 1 s ls
+AreFine s ls = AreFineBehind live_lines 1 s ls
 
 -- the leg
 abbrev pub leg_in : List (List ℕ) → Leg

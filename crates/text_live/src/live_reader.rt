@@ -1,16 +1,12 @@
 //! A live text, line by line.
-ghost use Rattle.std.specs.Prelude.{◌≡◌, ◌⊎◌, ℕ, ◌+◌, List, true, option_map, Some, None, Err};
-ghost use Rattle.std.specs.Prelude.{IfOk, IfErr, OnOk, OnErr, IfSome};
-ghost use Rattle.text_lines.specs.WordsOfLine.{words, is_skipped};
+ghost use Rattle.std.specs.Prelude.{◌≡◌, ℕ, ◌+◌, List, true, Some, None, Err, IfOk, IfErr, OnOk, OnErr, IfSome};
+ghost use Rattle.text_lines.specs.WordsOfLine.{words};
 ghost use Rattle.law_model.specs.Common.{IsNetwork};
 ghost use Rattle.text_scripts.specs.script_read.ScriptInPieces.{IsReader, HasNumbersLeft, next_number, drafted};
-ghost use Rattle.text_live.specs.LiveLines.{Said, of_script, nothing_said, opening_fault, line_fault};
+ghost use Rattle.text_live.specs.LiveLines.{Said, nothing_said, opening_fault};
 ghost use Rattle.text_live.specs.LiveReaderStands.{IsLiveReader, IsAt, IsToldAt, HasLinesLeft, ReadsLine};
-ghost use Rattle.text_live.specs.LiveReaderStands.{Stops, HandsOut};
-ghost use Rattle.text_live.specs.LiveReaderStands.{IsLiveLine, IsEarlierLine, failure, line_at};
-ghost use Rattle.text_live.specs.LiveReaderStands.{waiting_config, frame_of};
-ghost use Rattle.text_live.specs.LiveReaderStands.{opened_said, has_begun, no_memory};
-ghost use Rattle.text_scripts.specs.script_read.Statements.{words_fault, words_said, after};
+ghost use Rattle.text_live.specs.LiveReaderStands.{Stops, HandsOut, IsLiveLine, IsEarlierLine, failure, line_at};
+ghost use Rattle.text_live.specs.LiveReaderStands.{waiting_config, frame_of, opened_said, has_begun};
 
 use crate::live_fault::{LiveFault, LiveLineFault};
 use crate::live_keyword::{EarlierPart, FirstWord, LiveKeyword};
@@ -39,24 +35,6 @@ pub struct LiveReader {
     octets: Vec<u8>,
     // Why it doesn't read on.
     fault: Option<LiveFault>,
-}
-
-/// The lines of a script with one more.
-fn next_script(alloc: Global, reader: ScriptReader, line: &[u8]) -> Result<ScriptReader, LiveFault>
-    requires reader { IsReader reader }
-    requires room { HasNumbersLeft reader 1 }
-    ensures reader { IfOk result IsReader }
-    ensures sound { IfOk result (λ _. words_fault (drafted reader) (words line.now) ≡ None) }
-    ensures number { IfOk result (λ read. next_number read ≡ next_number reader + 1) }
-    ensures draft { IfOk result (λ read. drafted read ≡
-        after (next_number reader) (drafted reader) (words_said (words line.now))) }
-    ensures fault { IfErr result (λ fault. (fault ≡ no_memory) ⊎ IsToldAt (next_number reader)
-        (option_map of_script (words_fault (drafted reader) (words line.now))) fault) }
-{
-    match reader.read_next(alloc, line) {
-        Ok(read) => Ok(read),
-        Err(fault) => Err(LiveFault::Script(fault)),
-    }
 }
 
 /// The configuration that lines of a script say, where it is whole and fits.
@@ -134,39 +112,12 @@ impl LiveReader {
         stop
     }
 
-    /// Reads a line that says nothing.
-    fn read_blank(&mut self, line: &[u8]) -> Result<LiveLine, LiveFault>
-        requires reader { IsLiveReader self.old }
-        requires room { HasLinesLeft self.old }
-        requires goes_on { failure self.old ≡ None }
-        requires blank { is_skipped (words line.now) ≡ true }
-        ensures reader { IsLiveReader self.new }
-        ensures read { (n : ℕ) (s : Said) → IsAt self.old n s →
-            IfOk result (λ said. ReadsLine self.new n s (words line.now) said) }
-        ensures stops { (n : ℕ) (s : Said) → IsAt self.old n s →
-            IfErr result (λ fault. Stops n s (words line.now) fault) }
-        ensures failed { IfErr result (λ fault. failure self.new ≡ Some fault) }
-        ensures number { OnErr result (line_at self.new ≡ line_at self.old) }
-    {
-        let Some(reader) = self.settings.take() else {
-            self.number += 1;
-            return Ok(LiveLine::Blank);
-        };
-        match next_script(self.alloc, reader, line) {
-            Ok(reader) => {
-                self.settings = Some(reader);
-                self.number += 1;
-                Ok(LiveLine::Blank)
-            }
-            Err(fault) => {
-                self.fault = Some(fault);
-                Err(fault)
-            }
-        }
-    }
-
-    /// Reads a line that scripts have.
-    fn read_setting(&mut self, part: EarlierPart, line: &[u8]) -> Result<LiveLine, LiveFault>
+    /// Reads a line that says nothing, or one that scripts have, of this part.
+    fn read_earlier(
+        &mut self,
+        part: Option<EarlierPart>,
+        line: &[u8],
+    ) -> Result<LiveLine, LiveFault>
         requires reader { IsLiveReader self.old }
         requires room { HasLinesLeft self.old }
         requires goes_on { failure self.old ≡ None }
@@ -179,52 +130,27 @@ impl LiveReader {
         ensures failed { IfErr result (λ fault. failure self.new ≡ Some fault) }
         ensures number { OnErr result (line_at self.new ≡ line_at self.old) }
     {
-        let Some(reader) = self.settings.take() else {
-            return Err(self.stop(LiveLineFault::Behind(part)));
+        let says = match part {
+            Some(_) => LiveLine::Setting,
+            None => LiveLine::Blank,
         };
-        match next_script(self.alloc, reader, line) {
+        let Some(reader) = self.settings.take() else {
+            if let Some(part) = part {
+                return Err(self.stop(LiveLineFault::Behind(part)));
+            }
+            self.number += 1;
+            return Ok(says);
+        };
+        match reader.read_next(self.alloc, line) {
             Ok(reader) => {
                 self.settings = Some(reader);
                 self.number += 1;
-                Ok(LiveLine::Setting)
+                Ok(says)
             }
             Err(fault) => {
-                self.fault = Some(fault);
-                Err(fault)
-            }
-        }
-    }
-
-    /// Begins with live lines, where none has come.
-    fn open(&mut self) -> Result<(), LiveFault>
-        requires reader { IsLiveReader self.old }
-        requires goes_on { failure self.old ≡ None }
-        ensures reader { IsLiveReader self.new }
-        ensures begun { OnOk result (has_begun self.new ≡ true) }
-        ensures goes_on { OnOk result (failure self.new ≡ None) }
-        ensures number { line_at self.new ≡ line_at self.old }
-        ensures whole { (n : ℕ) (s : Said) → IsAt self.old n s →
-            OnOk result (opening_fault s.live s.settings ≡ None) }
-        ensures at { (n : ℕ) (s : Said) → IsAt self.old n s →
-            OnOk result (IsAt self.new n (opened_said s)) }
-        ensures config { (n : ℕ) (s : Said) → IsAt self.old n s →
-            OnOk result (HandsOut self.new s) }
-        ensures fault { (n : ℕ) (s : Said) → IsAt self.old n s →
-            IfErr result (λ fault. IsToldAt n (opening_fault s.live s.settings) fault) }
-        ensures failed { IfErr result (λ fault. failure self.new ≡ Some fault) }
-    {
-        let Some(reader) = self.settings.take() else {
-            return Ok(());
-        };
-        match opened(reader) {
-            Ok(config) => {
-                self.state.open(&config);
-                self.config = Some(config);
-                Ok(())
-            }
-            Err(fault) => {
-                self.fault = Some(fault);
-                Err(fault)
+                let stop = LiveFault::Script(fault);
+                self.fault = Some(stop);
+                Err(stop)
             }
         }
     }
@@ -240,11 +166,11 @@ impl LiveReader {
             IfOk result (λ said. ReadsLine self.new n s ws said) }
         ensures stops { (n : ℕ) (s : Said) (ws : List (List ℕ)) → IsAt self.old n s →
             IsLiveLine ws keyword (words rest.now) →
-            IfErr result (λ fault. IsToldAt n (line_fault s ws) fault) }
+            IfErr result (λ fault. Stops n s ws fault) }
         ensures failed { IfErr result (λ fault. failure self.new ≡ Some fault) }
         ensures number { OnErr result (line_at self.new ≡ line_at self.old) }
     {
-        match self.open() {
+        match self.finish() {
             Ok(()) => {}
             Err(fault) => return Err(fault),
         }
@@ -278,20 +204,23 @@ impl LiveReader {
             return Err(fault);
         }
         let Some((word, rest)) = first_word(line) else {
-            return self.read_blank(line);
+            return self.read_earlier(None, line);
         };
         match FirstWord::of(word) {
-            FirstWord::Earlier(part) => self.read_setting(part, line),
+            FirstWord::Earlier(part) => self.read_earlier(Some(part), line),
             FirstWord::Live(keyword) => self.read_live(keyword, rest),
             FirstWord::Other => Err(self.stop(LiveLineFault::First)),
         }
     }
 
-    /// Ends the text. Where no live line has come, the configuration has to be whole and to fit, and is handed out
-    /// then.
+    /// Ends the lines of the configuration, as the first live line does, or the end of a text without one: it has to be
+    /// whole and to fit, and is handed out then.
     pub fn finish(&mut self) -> Result<(), LiveFault>
         requires reader { IsLiveReader self.old }
         ensures reader { IsLiveReader self.new }
+        ensures begun { OnOk result (has_begun self.new ≡ true) }
+        ensures goes_on { OnOk result (failure self.new ≡ None) }
+        ensures number { line_at self.new ≡ line_at self.old }
         ensures whole { (n : ℕ) (s : Said) → IsAt self.old n s →
             OnOk result (opening_fault s.live s.settings ≡ None) }
         ensures at { (n : ℕ) (s : Said) → IsAt self.old n s →
@@ -307,6 +236,19 @@ impl LiveReader {
         if let Some(fault) = self.fault {
             return Err(fault);
         }
-        self.open()
+        let Some(reader) = self.settings.take() else {
+            return Ok(());
+        };
+        match opened(reader) {
+            Ok(config) => {
+                self.state.open(&config);
+                self.config = Some(config);
+                Ok(())
+            }
+            Err(fault) => {
+                self.fault = Some(fault);
+                Err(fault)
+            }
+        }
     }
 }

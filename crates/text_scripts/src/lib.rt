@@ -1,5 +1,5 @@
-//! Scripts: the reader and the writer of their text, and two that make scripts from a number, a load and a client at a
-//! rate.
+//! Scripts: the reader and the writer of their text, the load that is drawn from a number, and the `frame` lines of a
+//! client at a rate.
 //! What comes of a script isn't said here. Begin with `script_read::ScriptReader`; the language is the
 //! definition `script_of` in `specs/script_read`.
 //!

@@ -47,7 +47,7 @@ use Rattle.law_model.specs.declared.script_types.ItemKind.{ItemKind}
 use Rattle.std.proofs.lemmas.Bool.Decides.{nat_tests}
 use Rattle.std.proofs.lemmas.List.Elements.{All-cons, All-append}
 use Rattle.thread_group.specs.declared.group_answers.SubmitFault.{SubmitFault}
-use Rattle.thread_group.specs.FaultsAndStops.{fault_of, has_landed, is_full, refusal_told}
+use Rattle.thread_group.specs.SubmitFaults.{fault_of, has_landed, is_full, refusal_told}
 use Rattle.std.proofs.lemmas.List.Sums.{sum_by-drop_more}
 use Rattle.law_model.specs.declared.script_types.ItemKind.TheVariants.{Frame, Add, Remove}
 use Rattle.law_model.specs.declared.lcas_states.Command.TheVariants.{Add as add, Remove as remove}
@@ -335,26 +335,26 @@ pub item-here : (leg : Leg) (g : GroupState) (number : ℕ) (kind : ItemKind) �
     next_of g kind ≡ Some number → due_at (items_of g) number ≤ ticks_of g → IsItemOf leg number kind →
     slice_get leg.items number ≡ Some (record { due = ticks_of g; kind = kind })
 item-here leg g number kind of_script next due is_item =
-    due-now leg.items g.source.landed of_script.items (is_client kind) number (ticks_of g) kind next due
+    due-now leg.items g.landing of_script.items (is_client kind) number (ticks_of g) kind next due
     g.keeps.ahead is_item
 
 pub offer-next : (leg : Leg) (g : GroupState) (number : ℕ) (octets : List ℕ) → IsOf leg g →
-    next_number g.source.landed true ≡ Some number →
+    next_number g.landing true ≡ Some number →
     slice_get leg.items number ≡ Some (record { due = ticks_of g; kind = Frame octets }) →
     IsOfferAt leg.items (frames_of g) (entry_of number (ticks_of g) (Frame octets))
     (record { due = ticks_of g; frame = octets })
 offer-next leg g number octets of_script next here =
     offer-here leg.items (frames_of g) number (ticks_of g) octets
-    (next-there leg.items g.source.landed of_script.items true number next).0 here
+    (next-there leg.items g.landing of_script.items true number next).0 here
 
 pub order-next : (leg : Leg) (g : GroupState) (number : ℕ) (kind : ItemKind) (order : DueCommand) →
-    IsOf leg g → next_number g.source.landed false ≡ Some number →
+    IsOf leg g → next_number g.landing false ≡ Some number →
     order_of (ticks_of g) kind ≡ order ∷ [] → slice_get leg.items number ≡ Some
     (record { due = ticks_of g; kind = kind }) →
     IsOrderAt leg.items (commands_of g) (entry_of number (ticks_of g) kind) order
 order-next leg g number kind order of_script next is here =
     order-here leg.items (commands_of g) number (ticks_of g) kind order
-    (next-there leg.items g.source.landed of_script.items false number next).0 is here
+    (next-there leg.items g.landing of_script.items false number next).0 is here
 
 -- as many of its kind are before it as have landed
 offers-before : (leg : Leg) (g : GroupState) (number : ℕ) (kind : ItemKind) → IsOf leg g →
@@ -383,7 +383,7 @@ pub refusal-item : (leg : Leg) (g : GroupState) (number : ℕ) (kind : ItemKind)
     refusal_of g kind ≡ refusal_by leg (taken_of g) (entry_of number (ticks_of g) kind)
 refusal-item leg g number kind of_script has next here =
     sym (refused-is g kind) ∙ ∥∥₁_elim has.made (hlevel props)
-    (λ made. met-item leg (counts_of g) g.source.landed (source_of g) (taken_of g) number kind of_script.items
+    (λ made. met-item leg (counts_of g) g.landing (source_of g) (taken_of g) number kind of_script.items
     g.keeps.ahead made next here)
 
 -- ---- what has landed with it, and what is left
@@ -474,9 +474,9 @@ pub next-of : (leg : Leg) (a b : GroupState) (number : ℕ) (kind : ItemKind) �
     next_of a kind ≡ Some number → slice_get leg.items number ≡ Some (record { due = ticks_of a; kind = kind }) →
     HasCounted a b kind true → Next leg a b number kind
 next-of leg a b number kind of_script next here counted =
-    let at = (next-there leg.items a.source.landed of_script.items (is_client kind) number next).0 in
-    let with_it = leaves leg (counts_of a) a.source.landed number (ticks_of a) kind at here in
-    let same = next-counts (is_client kind) (counts_of a) a.source.landed (frames_of b) (commands_of b)
+    let at = (next-there leg.items a.landing of_script.items (is_client kind) number next).0 in
+    let with_it = leaves leg (counts_of a) a.landing number (ticks_of a) kind at here in
+    let same = next-counts (is_client kind) (counts_of a) a.landing (frames_of b) (commands_of b)
     (counted.frames ∙ ap (λ n. frames_of a + n) (counted-one (is_client kind)))
     (counted.commands ∙ ap (λ n. commands_of a + n) (counted-other (is_client kind))) in
     let less = left-next leg a b number kind of_script next here counted in

@@ -102,13 +102,14 @@ keeps-laid at size tx back k still popped =
     }
 
 module _ (leg : Leg) (g : GroupState) (tx : Vec (OutEnd Container)) (back : InEnd BackCell)
-    (keeps : Keeps (parts g.source.core g.source.total g.source.landed g.journal g.source.inbox tx.items back)
+    (lines : g.landing.lines ≡ g.source.core.lines)
+    (keeps : Keeps (parts g.source.core g.source.total g.landing g.journal g.source.inbox tx.items back)
     (length g.frame.items)) (still : AreStill g.tx.items tx.items) (same : SameIn g.back back)
     (popped : in_passed back ≡ in_passed g.back) where
-  told : taken_of (record g { tx = tx; back = back; keeps = keeps }) ≡ taken_of g
+  told : taken_of (record g { tx = tx; back = back; lines = lines; keeps = keeps }) ≡ taken_of g
   told = ap (told_taken (lost_of g) (lag_of g) (ticks_of g)) popped
 
-  landed-laid : HasLandedOf leg g → HasLandedOf leg (record g { tx = tx; back = back; keeps = keeps })
+  landed-laid : HasLandedOf leg g → HasLandedOf leg (record g { tx = tx; back = back; lines = lines; keeps = keeps })
   landed-laid has = record {
     entries = has.entries;
     past = has.past;
@@ -128,7 +129,7 @@ module _ (leg : Leg) (g : GroupState) (tx : Vec (OutEnd Container)) (back : InEn
   }
 
   pub bound-laid : (ends : List (OutEnd Container)) (ins : List (InEnd BackCell)) → IsBound leg ends ins g →
-      IsBound leg ends ins (record g { tx = tx; back = back; keeps = keeps })
+      IsBound leg ends ins (record g { tx = tx; back = back; lines = lines; keeps = keeps })
   bound-laid ends ins is = record {
     of_script = record {
       lines = is.of_script.lines;

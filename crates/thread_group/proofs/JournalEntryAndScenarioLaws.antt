@@ -5,7 +5,6 @@ use Rattle.std.proofs.Common.{sym, ◌∙◌, ap, subst, arith, inl, inr, length
 use Rattle.std.proofs.Common.{nat_lt, not, ◌&&◌, true, get_or, is_none}
 use Rattle.std.proofs.lemmas.Bool.{cases_lt, le-ltb, cases_Bool}
 use Rattle.std.proofs.lemmas.List.{append-nil, map_push, take-append-le, take_at, length_push}
-use Rattle.std.proofs.lemmas.List.{length-map}
 use Rattle.std.proofs.lemmas.List.Concat.{flat_map-append}
 use Rattle.std.proofs.lemmas.List.Elements.{filter-append, filter_more}
 use Rattle.std.proofs.lemmas.List.FromFn.{length-map-range_with_len, get_or-map-range_with_len}
@@ -42,7 +41,7 @@ use Rattle.law_walk.specs.Promise.{numbered}
 use Rattle.thread_group.specs.declared.group_answers.SubmitFault.{SubmitFault}
 use Rattle.thread_group.specs.declared.group_answers.SubmitFault.TheVariants.{NotNext, Early, Frame as Frame_fault}
 use Rattle.thread_group.specs.declared.group_answers.SubmitFault.TheVariants.{Command as Command_fault, JournalFull}
-use Rattle.thread_group.specs.FaultsAndStops.{has_landed, refusal_told}
+use Rattle.thread_group.specs.SubmitFaults.{has_landed, refusal_told}
 use Rattle.thread_group.specs.Group.{counted_by, entries_by}
 use Rattle.thread_group.specs.GroupParts.{ArePast}
 use Rattle.thread_group.specs.GroupOfLeg.{refusal_by, accepted_frames_by, accepted_commands_by}

@@ -17,17 +17,17 @@ use Rattle.thread_group.specs.declared.group_answers.SubmitFault.{SubmitFault}
 use Rattle.thread_group.specs.declared.group_answers.SubmitFault.TheVariants.{NotNext, Early, JournalFull}
 use Rattle.thread_group.specs.declared.group_state.GroupState.{GroupState}
 use Rattle.terminal_group.specs.Item.{size_of as octet_count}
-use Rattle.thread_group.specs.FaultsAndStops.{fault_of, has_landed, refusal_told, stop_of}
+use Rattle.thread_group.specs.SubmitFaults.{fault_of, has_landed, refusal_told}
 use Rattle.thread_group.specs.Journal.{entry_of, fits, journal_scenario}
 use Rattle.terminal_group.specs.ReturnInbox.{Inbox, told_taken}
 use Rattle.terminal_group.specs.Landed.{due_at, HasPassed}
-use Rattle.terminal_group.specs.Source.{SameRest, early_in}
+use Rattle.terminal_group.specs.SourceByCounts.{SameNetwork}
 use Rattle.terminal_group.specs.GivenItem.{met_by, with_kind}
 use Rattle.thread_group.specs.GroupParts.{setting_in}
 use Rattle.thread_group.specs.Group.{parts_of, GroupStands, SameScript, SameRings, items_of, frames_of, commands_of}
 use Rattle.thread_group.specs.Group.{journal_of, slots_of, bytes_of, refusals_of, taken_of, source_of, ticks_of}
 use Rattle.thread_group.specs.Group.{next_of, refusal_of, is_number, fault_met, fault_in, counted_by, HasCounted}
-use Rattle.thread_group.specs.Group.{with_landed, side_of, lost_of, lines_of, lag_of, size_of, statuses_of, SameLanded}
+use Rattle.thread_group.specs.Group.{with_landed, lost_of, lines_of, lag_of, size_of, statuses_of, SameLanded}
 use Rattle.thread_group.specs.Group.{total_of, inbox_of, held_of, replay_of, is_ticked, IsFreeToTick, AreMoved}
 use Rattle.thread_group.specs.Group.{IsMissing, ArePushedOf}
 use Rattle.thread_group.specs.GroupCalls.{Submits, Ticks, Comes, Looks, Makes}
@@ -42,9 +42,6 @@ use Rattle.std.proofs.lemmas.Option.{slice_get_within}
 use Rattle.law_model.proofs.ListLaws.{slice_get-inside}
 use Rattle.thread_group.specs.declared.group_answers.TickAnswer.{TickAnswer}
 use Rattle.thread_group.specs.declared.group_answers.TickAnswer.TheVariants.{Ticked, Held, TxFull, BackMissing, Done}
-use Rattle.terminal_group.specs.declared.group_source.EarlyCause.{EarlyCause}
-use Rattle.terminal_group.specs.declared.group_source.EarlyCause.TheVariants.{Done as Early_done, Held as Early_held}
-use Rattle.terminal_group.proofs.InboxReturnCellLaws.{early-none, early-done, early-held}
 use Rattle.thread_group.specs.GroupRings.{SameOuts, HasLooked, HaveLooked, AreFree, IsFirstFull, IsDrained}
 use Rattle.thread_group.proofs.GroupPartsAfterStepLaws.{empty-come}
 
@@ -214,8 +211,8 @@ pub record Lands (a b : GroupState) (number : ℕ) (kind : ItemKind) (why : Opti
 -- its source has landed it, and the rest but its journal is as it was
 pub lands-in : (a b : GroupState) (number : ℕ) (kind : ItemKind) (answer why : Option Refusal) (refused : Bool) →
     answer ≡ why → answer ≡ met_by (source_of a) kind → SameKind (source_of b) (source_of a) →
-    HasPassed a.source.landed b.source.landed (is_client kind) refused →
-    IsPlaced number (refused_by number answer) (refusals_of a) (refusals_of b) → SameRest a.source b.source →
+    HasPassed a.landing b.landing (is_client kind) refused →
+    IsPlaced number (refused_by number answer) (refusals_of a) (refusals_of b) → SameNetwork a.source b.source →
     ticks_of b ≡ ticks_of a → b.tx ≡ a.tx → b.back ≡ a.back →
     ((scenario : Scenario) (cells : List (Option Told)) → HasMade (source_of a) scenario cells →
     HasMade (source_of b) (with_kind scenario (ticks_of a) kind) cells) → Lands a b number kind why
@@ -472,23 +469,19 @@ ticks-held a b i comes low is =
     })
 
 -- ---- ticks are left, and no item holds them
-pub free-before : (a b : GroupState) → Comes a b → ticks_of b < total_of b → None ≡ held_of b → IsFreeToTick a
-free-before a b comes low is =
+pub free-before : (a b : GroupState) → Comes a b → IsFreeToTick b → IsFreeToTick a
+free-before a b comes free =
     let total = comes.script.total in
     let ticks = ap (λ (t : Terminal). t.ticks) comes.source in
-    record { left = omega arith; held = sym (is ∙ held-same a b comes.script comes.landed comes.source) }
+    let left = free.left in
+    record { left = omega arith; held = sym (held-same a b comes.script comes.landed comes.source) ∙ free.held }
 
--- by what the source says of its tick
-pub free-early : (a b : GroupState) → Comes a b → early_in (side_of b) ≡ None → IsFreeToTick a
-free-early a b comes none = let (low, is) = early-none (side_of b) none in free-before a b comes low (sym is)
-
-pub ticks-early : (a b : GroupState) (cause : EarlyCause) (answer : TickAnswer) → answer ≡ stop_of cause → Comes a b →
-    early_in (side_of b) ≡ Some cause → Ticks a b answer
-ticks-early a b Early_done answer same comes is =
-    subst (Ticks a b) (sym same) (ticks-done a b comes (early-done (side_of b) is))
-ticks-early a b (Early_held item) answer same comes is =
-    let (low, found) = early-held (side_of b) item is in
-    subst (Ticks a b) (sym same) (ticks-held a b item comes low (sym found))
+pub free-looks : (b d : GroupState) → Looks b d → IsFreeToTick b → IsFreeToTick d
+free-looks b d looks free =
+    let total = looks.script.total in
+    let ticks = ap (λ (t : Terminal). t.ticks) looks.source in
+    let left = free.left in
+    record { left = omega arith; held = held-same b d looks.script looks.landed looks.source ∙ free.held }
 
 not-done : (a : GroupState) → IsFreeToTick a → total_of a ≤ ticks_of a → ⊥
 not-done a free low = let left = free.left in omega arith

@@ -17,8 +17,7 @@ use Rattle.thread_group.specs.declared.group_answers.TickAnswer.{TickAnswer}
 use Rattle.thread_group.specs.declared.group_answers.TickAnswer.TheVariants.{Ticked, Held, TxFull, BackMissing, Done}
 use Rattle.terminal_group.specs.Item.{size_of as octet_count, bare_items}
 use Rattle.terminal_group.specs.GivenItem.{with_kind}
-use Rattle.terminal_group.specs.Source.{Source}
-use Rattle.thread_group.specs.FaultsAndStops.{fault_of}
+use Rattle.thread_group.specs.SubmitFaults.{fault_of}
 use Rattle.thread_group.specs.Journal.{entry_of, items_in, fits, IsLegal}
 use Rattle.terminal_group.specs.Landed.{next_number, due_at, AreAhead, AreBehind}
 use Rattle.thread_group.specs.GroupRings.{IsDrained, AreFree}
@@ -26,11 +25,7 @@ use Rattle.thread_group.specs.GroupParts.{Parts, parts, scenario_in, told_in_par
 use Rattle.thread_group.specs.declared.group_state.GroupState.{GroupState}
 
 abbrev pub parts_of : GroupState → Parts
-parts_of g = parts g.source.core g.source.total g.source.landed g.journal g.source.inbox g.tx.items g.back
-
--- its source side
-abbrev pub side_of : GroupState → Source
-side_of g = g.source
+parts_of g = parts g.source.core g.source.total g.landing g.journal g.source.inbox g.tx.items g.back
 
 -- ---- what it keeps of its script
 abbrev pub lines_of : GroupState → ℕ

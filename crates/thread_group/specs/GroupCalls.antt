@@ -9,7 +9,7 @@ use Rattle.law_walk.specs.Common.{IsPlaced, refused_by}
 use Rattle.thread_group.specs.declared.group_answers.SubmitFault.{SubmitFault}
 use Rattle.thread_group.specs.declared.group_answers.TickAnswer.{TickAnswer}
 use Rattle.thread_group.specs.declared.group_answers.TickAnswer.TheVariants.{Ticked, Held, TxFull, BackMissing, Done}
-use Rattle.thread_group.specs.FaultsAndStops.{has_landed, refusal_told}
+use Rattle.thread_group.specs.SubmitFaults.{has_landed, refusal_told}
 use Rattle.terminal_group.specs.Landed.{due_at}
 use Rattle.thread_group.specs.GroupRings.{SameOuts, IsFirstFull, HaveLooked}
 use Rattle.thread_group.specs.declared.group_state.GroupState.{GroupState}

@@ -1,4 +1,4 @@
-pub mod FaultsAndStops
+pub mod SubmitFaults
 pub mod Journal
 pub mod GroupRings
 pub mod GroupParts

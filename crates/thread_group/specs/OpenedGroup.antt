@@ -4,13 +4,16 @@ use Rattle.law_model.specs.Common.{Leg, Scenario}
 use Rattle.terminal_source.specs.source_core.GivenScenario.{IsFresh, SourceStands as HasMade}
 use Rattle.thread_group.specs.declared.open_group.Opened.{Opened}
 use Rattle.thread_group.specs.declared.group_state.GroupState.{GroupState}
-use Rattle.terminal_group.specs.Source.{IsUnused}
+use Rattle.terminal_group.specs.Item.{bare_items}
+use Rattle.terminal_group.specs.Landed.{none_landed}
+use Rattle.terminal_group.specs.SourceByCounts.{IsUnusedOn}
 use Rattle.thread_group.specs.Group.{IsOf, lines_of, lag_of, size_of, statuses_of, ticks_of}
 use Rattle.thread_group.specs.Group.{frames_of, commands_of, journal_of, refusals_of, inbox_of, source_of}
 
--- the source of the leg, an empty journal, and a box for each line
+-- the source of the leg, of which nothing has landed, an empty journal, and a box for each line
 pub record IsOpened (leg : Leg) (opened : Opened) : Type 0 where
-  pub source : IsUnused leg opened.source
+  pub source : IsUnusedOn leg.config opened.source
+  pub landing : opened.landing ≡ none_landed leg.config.lines (bare_items leg.items)
   pub journal : opened.journal.entries ≡ []
   pub places : length opened.frame.items ≡ leg.config.lines
 

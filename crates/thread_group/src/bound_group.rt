@@ -7,7 +7,7 @@ ghost use Rattle.thread_group.specs.GroupOfLeg.{IsBound};
 use crate::group_answers::{SubmitFault, TickAnswer};
 use crate::group_state::GroupState;
 use std::marker::{Brand, PhantomData};
-use terminal_group::ItemRef;
+use terminal_group::{ItemRef, Landing};
 
 /// Which session it is: its script, and the ends of the rings of its group as they were made. Each call of
 /// the function that makes the lock picks them.
@@ -70,9 +70,9 @@ impl<Y: Session> BoundGroup<Y> {
     ghost use Rattle.std.specs.Prelude.{◌≡◌, nat_lt, not, true, false};
     ghost use Rattle.law_model.specs.Common.{refusal_in};
     ghost use Rattle.terminal_group.specs.Item.{kind_of};
-    ghost use Rattle.thread_group.specs.FaultsAndStops.{is_full};
+    ghost use Rattle.thread_group.specs.SubmitFaults.{is_full};
     ghost use Rattle.thread_group.specs.GroupCalls.{Submits, Ticks};
-    ghost use Rattle.thread_group.specs.Group.{next_brought};
+    ghost use Rattle.thread_group.specs.Group.{parts_of};
     ghost use Rattle.thread_group.specs.HandedAhead.{handed_below};
     ghost use Rattle.thread_group.specs.GroupOfLeg.{IsItemOf};
 
@@ -93,11 +93,11 @@ impl<Y: Session> BoundGroup<Y> {
         }
     }
 
-    /// The number of the item that lands next of what the client brings, or of what the operator brings.
-    pub fn next(&self, client: bool) -> Option<u32>
-        ensures { result ≡ next_brought self.now.state client }
+    /// What has landed of the group, and what lands next.
+    pub fn landing(&self) -> &Landing
+        ensures { result.now ≡ (parts_of self.now.state).landed }
     {
-        self.state.next(client)
+        &self.state.landing
     }
 
     /// Hands in ahead what the client brings, or what the operator brings, below a number of the script. None of

@@ -1,10 +1,9 @@
 //! What the calls of a group answer.
 
 ghost use Rattle.std.specs.Prelude.{◌≡◌};
-ghost use Rattle.thread_group.specs.FaultsAndStops.{fault_of, stop_of};
+ghost use Rattle.thread_group.specs.SubmitFaults.{fault_of};
 
 use law_model::Refusal;
-use terminal_group::EarlyCause;
 use terminal_source::source_core::{AcceptFault, CommandFault};
 
 /// Why an item isn't accepted.
@@ -44,15 +43,5 @@ pub(crate) fn refused(why: Refusal) -> SubmitFault
     match why {
         Refusal::Frame(fault) => SubmitFault::Frame(fault),
         Refusal::Command(fault) => SubmitFault::Command(fault),
-    }
-}
-
-/// The answer of a tick that something else than a ring stops.
-pub(crate) fn stopped(cause: EarlyCause) -> TickAnswer
-    ensures { result ≡ stop_of cause }
-{
-    match cause {
-        EarlyCause::Done => TickAnswer::Done,
-        EarlyCause::Held { item } => TickAnswer::Held { item },
     }
 }

@@ -2,19 +2,20 @@
 
 ghost use Rattle.std.specs.Prelude.{◌≡◌, ◌<◌, Option, None, length, IfOk};
 ghost use Rattle.law_model.specs.Common.{leg_of, Scenario};
+ghost use Rattle.terminal_source.specs.source_core.Terminal.{needed};
 ghost use Rattle.terminal_source.specs.source_core.GivenScenario.{SourceStands as HasMade};
 ghost use Rattle.terminal_group.specs.Item.{kind_of};
-ghost use Rattle.terminal_group.specs.Source.{early_in, missing_in};
+ghost use Rattle.terminal_group.specs.Source.{missing_by};
 ghost use Rattle.thread_group.specs.GroupParts.{parts, Keeps};
 
-use crate::group_answers::{SubmitFault, TickAnswer, refused, stopped};
+use crate::group_answers::{SubmitFault, TickAnswer, refused};
 use crate::item_journal::Journal;
 use crate::open_group::{Opened, open};
 use crate::tick_rings::{first_full, push_frame, take_cells};
 use law_model::{Script, Totals};
 use member_cells::{BackCell, Container, HeldContainer};
 use std::alloc::{AllocError, Global};
-use terminal_group::{GroupSource, ItemRef, Refusals};
+use terminal_group::{CountedSource, ItemRef, Landing, Refusals};
 use thread_rings::{RingIn, RingOut};
 
 /// A group. It takes the client's frames and the operator's commands in the order of its script, each kind by
@@ -22,7 +23,9 @@ use thread_rings::{RingIn, RingOut};
 /// memory.
 #[derive(Drop)]
 pub struct GroupState {
-    source: GroupSource,
+    source: CountedSource,
+    /// Which items of its script have landed, and which were refused.
+    pub(crate) landing: Landing,
     journal: Journal,
     /// Boxes for the containers of a frame.
     frame: Vec<Box<HeldContainer>>,
@@ -30,8 +33,9 @@ pub struct GroupState {
     pub tx: Vec<RingOut<Container>>,
     /// Where it pops return cells.
     pub back: RingIn<BackCell>,
+    ghost lines: { landing.lines ≡ source.core.lines },
     ghost keeps: { Keeps
-        (parts source.core source.total source.landed journal source.inbox tx.items back)
+        (parts source.core source.total landing journal source.inbox tx.items back)
         (length frame.items) },
 }
 
@@ -45,11 +49,10 @@ impl GroupState {
     ghost use Rattle.thread_group.specs.Journal.{fits};
     ghost use Rattle.terminal_group.specs.Landed.{due_at, IsKept};
     ghost use Rattle.thread_group.specs.GroupRings.{AreUnused, AreFree, IsFirstFull};
-    ghost use Rattle.thread_group.specs.Group.{parts_of, side_of, lines_of, lag_of, size_of, statuses_of};
-    ghost use Rattle.thread_group.specs.Group.{IsOf, ticks_of};
+    ghost use Rattle.thread_group.specs.Group.{parts_of, lines_of, lag_of, size_of, statuses_of};
+    ghost use Rattle.thread_group.specs.Group.{IsOf, IsFreeToTick, ticks_of};
     ghost use Rattle.thread_group.specs.Group.{items_of, frames_of, commands_of, journal_of, slots_of, bytes_of};
     ghost use Rattle.thread_group.specs.Group.{refusals_of, inbox_of, source_of, totals_of, next_of, refusal_of};
-    ghost use Rattle.thread_group.specs.Group.{next_brought};
     ghost use Rattle.thread_group.specs.OpenedGroup.{IsOpened, IsBegun};
     ghost use Rattle.thread_group.specs.GroupCalls.{Submits, Ticks, Comes, Looks, Makes};
 
@@ -88,27 +91,20 @@ impl GroupState {
         ensures { result ≡ totals_of self.now }
     {
         Totals {
-            ticks: self.source.ticks(),
+            ticks: self.source.core().ticks(),
             taken: 0,
             frames: self.journal.frames(),
             commands: self.journal.commands(),
-            refused: self.source.landing().all_refused(),
+            refused: self.landing.all_refused(),
             got: 0,
         }
-    }
-
-    /// The number of the item that lands next of what the client brings, or of what the operator brings.
-    pub(crate) fn next(&self, client: bool) -> Option<u32>
-        ensures { result ≡ next_brought self.now client }
-    {
-        self.source.landing().next(client)
     }
 
     /// The items that were refused, in the order of the script.
     pub fn refusals(&self) -> Refusals<'_>
         ensures { result ≡ refusals_of self.now }
     {
-        self.source.landing().refusals()
+        self.landing.refusals()
     }
 
     /// Lands an item, of this number in the script. Of each kind, the client's frames and the operator's
@@ -116,15 +112,16 @@ impl GroupState {
     /// is kept; the journal needs room only for one that the source takes. Each other fault changes nothing.
     /// The item is the script's: a frame of the length that it has there, or the same command.
     pub fn submit(&mut self, number: u32, item: ItemRef) -> Result<(), SubmitFault>
-        requires { IsKept (side_of self.old).landed number (kind_of item) }
+        requires { IsKept (parts_of self.old).landed number (kind_of item) }
         ensures { Submits self.old self.new number (kind_of item.entry) (refusal_in result) }
     {
-        let next = self.source.landing().next(item.is_frame());
+        let client = item.is_frame();
+        let next = self.landing.next(client);
         if next != Some(number) {
             return Err(SubmitFault::NotNext { next });
         }
-        let now = self.source.ticks();
-        if now < self.source.landing().due(item.is_frame(), number) {
+        let now = self.source.core().ticks();
+        if now < self.landing.due(client, number) {
             return Err(SubmitFault::Early { now });
         }
         if !self.finds_room(item) {
@@ -143,8 +140,12 @@ impl GroupState {
         ensures { Ticks self.old self.new result }
     {
         self.come();
-        if let Some(cause) = self.source.early_cause() {
-            return stopped(cause);
+        let ticks = self.source.core().ticks();
+        if ticks >= self.source.total_ticks() {
+            return TickAnswer::Done;
+        }
+        if let Some(item) = self.landing.held(ticks) {
+            return TickAnswer::Held { item };
         }
         if let Some(line) = self.look() {
             return TickAnswer::TxFull { line };
@@ -175,11 +176,13 @@ impl GroupState {
     {
         let Opened {
             source,
+            landing,
             journal,
             frame,
         } = opened;
         GroupState {
             source,
+            landing,
             journal,
             frame,
             tx,
@@ -198,16 +201,18 @@ impl GroupState {
     /// Lands an item that is the next of its kind and is due. The journal has room for it, where the source takes it.
     fn land(&mut self, number: u32, item: ItemRef) -> Result<(), SubmitFault>
         requires next { next_of self.old (kind_of item) ≡ Some number }
-        requires item { IsKept (side_of self.old).landed number (kind_of item) }
+        requires item { IsKept (parts_of self.old).landed number (kind_of item) }
         requires due { due_at (items_of self.old) number ≤ ticks_of self.old }
         requires room { refusal_of self.old (kind_of item) ≡ None →
             fits (parts_of self.old).journal (kind_of item) ≡ true }
         ensures { Submits self.old self.new number (kind_of item.entry) (refusal_in result) }
     {
-        match self.source.land(number, item) {
+        let why = self.source.land(item);
+        self.landing.land(item.is_frame(), number, why);
+        match why {
             Some(why) => Err(refused(why)),
             None => {
-                self.journal.push(number, self.source.ticks(), item);
+                self.journal.push(number, self.source.core().ticks(), item);
                 Ok(())
             }
         }
@@ -225,16 +230,15 @@ impl GroupState {
         ensures looks { Looks self.old self.new }
         ensures full { MatchOption result (AreFree self.new.tx.items)
             (λ line. IsFirstFull self.old.tx.items self.new.tx.items line) }
-        ensures side { side_of self.new ≡ side_of self.old }
     {
         first_full(&mut self.tx)
     }
 
     /// Makes the next frame, for which the send rings have slots and the return cell is there that it needs.
     fn make_frame(&mut self)
-        requires early { early_in (side_of self.old) ≡ None }
-        requires cell { missing_in (side_of self.old) ≡ None }
-        requires free { AreFree self.old.tx.items }
+        requires free { IsFreeToTick self.old }
+        requires cell { missing_by (needed (source_of self.old)) (inbox_of self.old) ≡ None }
+        requires slots { AreFree self.old.tx.items }
         ensures { Makes self.old self.new }
     {
         let _taken = self.source.make(&mut self.frame);

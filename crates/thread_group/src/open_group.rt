@@ -8,12 +8,13 @@ use crate::item_journal::Journal;
 use law_model::Script;
 use member_cells::{HeldContainer, blank_boxes};
 use std::alloc::{AllocError, Global};
-use terminal_group::GroupSource;
+use terminal_group::{CountedSource, Landing};
 
 /// What a group begins with, before anything has come.
 #[derive(Drop)]
 pub(crate) struct Opened {
-    pub(crate) source: GroupSource,
+    pub(crate) source: CountedSource,
+    pub(crate) landing: Landing,
     pub(crate) journal: Journal,
     /// Boxes for the containers of a frame.
     pub(crate) frame: Vec<Box<HeldContainer>>,
@@ -34,6 +35,7 @@ pub(crate) fn open(
     Ok(Opened {
         frame: blank_boxes(alloc, usize::from(script.config.lines))?,
         journal: Journal::new(entries, bytes),
-        source: GroupSource::new(alloc, script)?,
+        landing: Landing::of(alloc, script)?,
+        source: CountedSource::new(alloc, &script.config)?,
     })
 }

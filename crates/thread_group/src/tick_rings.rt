@@ -6,11 +6,11 @@ ghost use Rattle.member_cells.specs.HeldPlaces.{held};
 ghost use Rattle.thread_group.specs.GroupRings.{AreFree, IsFirstFull, HaveLooked, ArePushed, IsDrained, HasMoved};
 
 use member_cells::{BackCell, Container, HeldContainer};
-use terminal_group::GroupSource;
+use terminal_group::CountedSource;
 use thread_rings::{RingIn, RingOut};
 
 /// Moves return cells into the inbox until a look finds none, or the inbox is full.
-pub(crate) fn take_cells(source: &mut GroupSource, back: &mut RingIn<BackCell>)
+pub(crate) fn take_cells(source: &mut CountedSource, back: &mut RingIn<BackCell>)
     requires room { length source.old.inbox.cells ≤ source.old.inbox.room }
     requires few { source.old.inbox.come + source.old.inbox.room < 4294967295 }
     ensures moved { HasMoved source.old.inbox source.new.inbox back.old back.new }

@@ -45,7 +45,7 @@ use Rattle.terminal_group.specs.Landed.{due_at}
 use Rattle.thread_group.specs.declared.group_answers.SubmitFault.{SubmitFault}
 use Rattle.law_model.specs.declared.item_refusals.Refusal.{Refusal}
 use Rattle.law_model.specs.declared.item_refusals.Refusal.TheVariants.{Frame as frame_refused, Command as command_refused}
-use Rattle.thread_group.specs.FaultsAndStops.{has_landed, is_full}
+use Rattle.thread_group.specs.SubmitFaults.{has_landed, is_full}
 use Rattle.thread_group.specs.GroupCalls.{Submits}
 use Rattle.thread_group.proofs.SubmitAndTickAnswerLaws.{fault_by}
 use Rattle.thread_session.specs.session_run.Turns.{HasLanded, MayLand}

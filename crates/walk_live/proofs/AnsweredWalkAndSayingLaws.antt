@@ -1,9 +1,8 @@
 -- One saying more to an AnsweredWalk (IsAnswered), in each leg that agrees with what was said (IsLegOf).
 use Rattle.std.proofs.Common.{◌≡◌, ℕ, ◌+◌, ◌<◌, List, [], ◌∷◌, ◌++◌, length, slice_index_or, refl, sym, ◌∙◌, ap, subst}
-use Rattle.std.proofs.Common.{append-nil, arith, ◌^◌, ◌≤◌, slice_set, Option, Some, None, ap₂, length-append, Ok}
-use Rattle.std.proofs.Common.{Err, Result, OnOk, OnErr}
+use Rattle.std.proofs.Common.{append-nil, arith, ◌^◌, ◌≤◌, slice_set, Option, Some, None, ap₂, length-append}
 use Rattle.std.proofs.lemmas.List.{get_or-map, length-map}
-use Rattle.law_model.specs.Common.{IsNetwork, Leg, begin, AppendsPart}
+use Rattle.law_model.specs.Common.{IsNetwork, Leg, begin}
 use Rattle.law_model.specs.declared.script_types.Config.{Config}
 use Rattle.law_model.specs.declared.window_types.Window.{Window}
 use Rattle.law_model.specs.members.Damage.{carried}
@@ -21,7 +20,7 @@ use Rattle.law_live.proofs.WellSaidLegAndWindowLaws.{IsOpen}
 use Rattle.walk_engine.specs.walk_core.LiveWalking.{IsLegOver, LiveStands, Walking, walking_counts, IsLive, LiveMakes}
 use Rattle.walk_engine.specs.walk_core.OpenedWay.{HasWindows}
 use Rattle.walk_engine.specs.walk_core.WayParts.{AgreesAt, waiting_in, windows_in, windows_of}
-use Rattle.walk_live.specs.Answered.{IsLegOf, WalksAs, IsAnswered, Answers, AnswersPart}
+use Rattle.walk_live.specs.Answered.{IsLegOf, WalksAs, IsAnswered}
 use Rattle.law_model.specs.declared.item_refusals.Refusal.{Refusal}
 use Rattle.law_model.specs.declared.script_types.ItemKind.{ItemKind}
 use Rattle.text_report.specs.ReportLines.{refused_text}
@@ -37,10 +36,7 @@ use Rattle.walk_live.proofs.SaidItemAndFailureLaws.{can-mend, cut-windows, mend-
 use Rattle.walk_live.proofs.SaidItemAndFailureLaws.{uncut-windows, IsNext, accepted-text, counts-are, next-due}
 use Rattle.walk_live.proofs.SaidItemAndFailureLaws.{refusal-is, refused-text}
 use Rattle.walk_live.proofs.PassRoundsLaws.{PassesIn, pass-free-at, pass-text, pass_end, passes-over, rest_text}
-use Rattle.octet_io.specs.declared.source_and_sink.Failed.{Failed}
-use Rattle.text_got.proofs.WaitingTextInBlockLaws.{Holds-waits}
 use Rattle.law_live.specs.LiveAnswers.{answers_from as live_answers_from}
-use Rattle.walk_live.specs.Talking.{AnswersMore}
 use Rattle.walk_live.specs.declared.asked.Asked.{Asked}
 
 -- ---- A walk that is told what is said, in each leg that agrees with it.
@@ -540,8 +536,7 @@ module _ (walk : AnsweredWalk) (asked : Asked) (config : Config) (said : List Sa
           (pass-waits now.walk waiting walks waits leg pass-own ∙ ap (waiting_at leg) end)
           ∙ pass-whole until ends
 
--- ---- What a walk answers to what a line says, by what it answers to one saying.
--- nothing is answered where nothing is said, or a line is cut or mended
+-- ---- Nothing is answered where nothing is said, or a line is cut or mended.
 pub none_answered : (asked : Asked) (leg : Leg) (said : List Saying) → answered_since asked leg said [] ≡ []
 unfolding live_answers_from
 none_answered asked leg said = refl
@@ -555,56 +550,3 @@ pub mend_answered : (asked : Asked) (leg : Leg) (said : List Saying) (m : ℕ) �
     answered_since asked leg said (mends m ∷ []) ≡ []
 unfolding live_answers_from
 mend_answered asked leg said m = refl
-
-pub well_as : (config : Config) (said more other : List Saying) → more ≡ other → IsWellSaid config (said ++ more) →
-    IsWellSaid config (said ++ other)
-well_as config said more other same well = subst (λ (l : List Saying). IsWellSaid config (said ++ l)) same well
-
-module _ {K : Type 0} (written : K → Option (List ℕ)) (faults : K → ℕ) where
-  -- one saying
-  pub one_more : (old new : K) (waited waits : List ℕ) (was now : AnsweredWalk) (more : List Saying) (saying : Saying)
-      (result : Result (Unit {0}) Failed) → more ≡ saying ∷ [] →
-      ((asked : Asked) (config : Config) (said : List Saying) → IsAnswered was asked config said →
-      IsWellSaid config (said ++ saying ∷ []) →
-      OnOk result (Answers written faults old new waited waits now asked config said saying)) →
-      (asked : Asked) (config : Config) (said : List Saying) → IsAnswered was asked config said →
-      IsWellSaid config (said ++ more) →
-      OnOk result (AnswersMore written faults old new waited waits now asked config said more)
-  one_more old new waited waits was now more saying (Err failed) same answers asked config said is well = tt
-  one_more old new waited waits was now more saying (Ok done) same answers asked config said is well =
-      let own = answers asked config said is (well_as config said more (saying ∷ []) same well) in
-      subst (AnswersMore written faults old new waited waits now asked config said) (sym same)
-      (record { is = own.is; holds = own.holds })
-
-  pub one_part : (old new : K) (waited : List ℕ) (was : AnsweredWalk) (more : List Saying) (saying : Saying)
-      (result : Result (Unit {0}) Failed) → more ≡ saying ∷ [] →
-      ((asked : Asked) (config : Config) (said : List Saying) → IsAnswered was asked config said →
-      IsWellSaid config (said ++ saying ∷ []) →
-      OnErr result (AnswersPart written faults old new waited asked config said saying)) →
-      (asked : Asked) (config : Config) (said : List Saying) → IsAnswered was asked config said →
-      IsWellSaid config (said ++ more) →
-      OnErr result (AppendsPart written faults old new
-      (waited ++ answered_since asked (leg_said config (said ++ more)) said more))
-  one_part old new waited was more saying result same part asked config said is well =
-      subst (λ (l : List Saying). OnErr result (AppendsPart written faults old new
-      (waited ++ answered_since asked (leg_said config (said ++ l)) said l))) (sym same)
-      (part asked config said is (well_as config said more (saying ∷ []) same well))
-
-  -- nothing is answered
-  pub quiet_more : (sink : K) (waiting : List ℕ) (now : AnsweredWalk) (asked : Asked) (config : Config)
-      (said more : List Saying) (saying : List Saying) → more ≡ saying → IsAnswered now asked config (said ++ saying) →
-      answered_since asked (leg_said config (said ++ saying)) said saying ≡ [] →
-      AnswersMore written faults sink sink waiting waiting now asked config said more
-  quiet_more sink waiting now asked config said more saying same is quiet =
-      subst (AnswersMore written faults sink sink waiting waiting now asked config said) (sym same)
-      (record {
-        is = is;
-        holds = Holds-waits written faults sink waiting
-            (waiting ++ answered_since asked (leg_said config (said ++ saying)) said saying)
-            (sym (ap (λ (t : List ℕ). waiting ++ t) quiet ∙ append-nil waiting));
-      })
-
--- and nothing was said
-pub still_answered : (now : AnsweredWalk) (asked : Asked) (config : Config) (said : List Saying) →
-    IsAnswered now asked config said → IsAnswered now asked config (said ++ [])
-still_answered now asked config said is = subst (IsAnswered now asked config) (sym (append-nil said)) is

@@ -18,8 +18,8 @@ use Rattle.law_live.proofs.AgreeingLegConversationLaws.{answers-steps, well-fron
 use Rattle.law_live.proofs.SamePastRoundAndAnswerLaws.{later}
 use Rattle.law_live.proofs.WellSaidLegAndWindowLaws.{said-sound}
 use Rattle.text_captures.specs.packet_trace.StepText.{step_text}
-use Rattle.walk_live.specs.LiveReplies.{answered, answered_since, step_line, telling, live_dialogue, live_reply, reply_by}
-use Rattle.walk_live.specs.LiveReplies.{live_last}
+use Rattle.walk_live.specs.LiveTexts.{reply_by}
+use Rattle.walk_live.specs.LiveReplies.{answered, answered_since, step_line, telling, live_dialogue, note_at}
 use Rattle.text_live.specs.LiveLines.{Said, live_or, nothing_said, LineWrong, line_fault, now_live, opening_fault}
 use Rattle.text_live.specs.Sayings.{AgreesWith, AreFine, leg_in, line_saying, said_in, sayings}
 use Rattle.text_live.proofs.LiveScriptSayingsLaws.{front_fine, less_fine, lines_agree, said_next, sayings_next}
@@ -140,12 +140,12 @@ answered_more asked leg said more = text-more leg (begin (walk_plan leg)) said m
 
 -- ---- What is answered to lines grows by the answer to each behind those before it.
 -- ---- from the first live line on
-record IsLegSaid (c : Config) (ls : List (List ℕ)) : Type 0 where
-  network : IsNetwork c
-  well : IsWellSaid c (sayings ls)
-  leg : leg_in ls ≡ leg_said c (sayings ls)
+pub record IsLegSaid (c : Config) (ls : List (List ℕ)) : Type 0 where
+  pub network : IsNetwork c
+  pub well : IsWellSaid c (sayings ls)
+  pub leg : leg_in ls ≡ leg_said c (sayings ls)
 
-leg_lines : (ls : List (List ℕ)) (live : Live) → AreFine nothing_said ls → length ls ≤ longest_input →
+pub leg_lines : (ls : List (List ℕ)) (live : Live) → AreFine nothing_said ls → length ls ≤ longest_input →
     (said_in ls).live ≡ Some live → IsLegSaid (said_in ls).settings.config ls
 leg_lines ls live fine few is =
     let s : Said = said_in ls in
@@ -243,7 +243,7 @@ pub record IsReplied (found : Option LineWrong) (given text : List ℕ) : Type 0
   pub none : found ≡ None
   pub is : given ≡ text
 
-pub replied : (n : ℕ) (found : Option LineWrong) (given text : List ℕ) → reply_by n found given ≡ Ok text →
+pub replied : (n : ℕ) (found : Option LineWrong) (given text : List ℕ) → reply_by (note_at n found) given ≡ Ok text →
     IsReplied found given text
 replied n None given text is = record { none = refl; is = cc }
 replied n (Some wrong) given text is = absurd cc
@@ -251,7 +251,7 @@ replied n (Some wrong) given text is = absurd cc
 pub spoken_more : (asked : Asked) → StandsByLines (IsSpoken asked)
 spoken_more asked heard line text spoken left is =
     let ls : List (List ℕ) = heard.lines in
-    let reply : live_reply asked ls line ≡ Ok text =
+    let reply : (live_dialogue asked).reply ls line ≡ Ok text =
     sym (ap (λ (d : Dialogue). d.reply ls line) spoken.dialogue) ∙ is in
     let parts = replied (length ls + 1) (line_fault (said_in ls) (words line))
     (answered_since asked (leg_in (ls ++ line ∷ [])) (sayings ls) (line_saying line)) text reply in
@@ -316,7 +316,7 @@ headline_at : (asked : Asked) (text : List ℕ) (now : Heard) → IsSpoken asked
     (parting now (last_reply now)).end ≡ None → IsLiveHeadline asked text (parting now (last_reply now)).text
 headline_at asked text now spoken are none =
     let parted = has_parted now (last_reply now) none in
-    let last : live_last now.lines ≡ Ok parted.text =
+    let last : (live_dialogue asked).last now.lines ≡ Ok parted.text =
     sym (ap (λ (d : Dialogue). d.last now.lines) spoken.dialogue) ∙ parted.is in
     let whole = replied (length now.lines + 1) (opening_fault (said_in now.lines).live (said_in now.lines).settings)
     (last_text (leg_in now.lines) (sayings now.lines)) parted.text last in

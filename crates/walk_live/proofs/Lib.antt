@@ -1,6 +1,7 @@
 pub mod AnsweredWalkAndSayingLaws
 pub mod ConversationAnswerLaws
-pub mod LiveTalkerReplyLaws
+pub mod LiveTalkerLaws
+pub mod WalkByLinesLaws
 pub mod PassRoundsLaws
 pub mod SaidItemAndFailureLaws
 pub mod TimedLineWritingLaws

@@ -92,28 +92,12 @@ members-next words first middle now ticks was is n before behind =
       slice = behind.slice ∙ before.slice;
     }
 
--- of a member
-pub told-same : (words : List ℕ) (ticks m : ℕ) (was now : List ℕ) → bytes_eq was now ≡ true →
-    worded_members words (told_of ticks m was now) ≡ []
-told-same words ticks m was now same = rw same refl
-
-pub told-other : (words : List ℕ) (ticks m : ℕ) (was now : List ℕ) → bytes_eq was now ≡ false →
-    worded_members words (told_of ticks m was now)
-    ≡ worded_member words (record { ticks = ticks; line = m; code = now })
-told-other words ticks m was now other =
-    rw other (append-nil (worded_member words (record { ticks = ticks; line = m; code = now })))
-
 -- ---- since some ticks
 pub steps-untold : (leg : Leg) (was now : ℕ) → steps_text Nothing leg was now ≡ []
 steps-untold leg was now = elim (cases_Bool (nat_lt (steps_in was) (steps_in now))) [
   | inl e ↦ rw e refl
   | inr e ↦ rw e refl
 ]
-
-pub steps-same : (asked : Asked) (leg : Leg) (was now : ℕ) → steps_in now ≡ steps_in was →
-    steps_text asked leg was now ≡ []
-steps-same asked leg was now same =
-    let e : nat_lt (steps_in was) (steps_in now) ≡ false = grind (arith, same) in rw e refl
 
 pub steps-one : (asked : Asked) (leg : Leg) (was now : ℕ) → steps_in now ≡ steps_in was + 1 →
     steps_text asked leg was now ≡ step_line asked leg (steps_in was)

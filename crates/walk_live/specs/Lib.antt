@@ -1,8 +1,10 @@
+pub mod LiveTexts
+pub mod Answering
 pub mod LiveReplies
 pub mod Notes
 pub mod Answered
 pub mod TimedWriting
 pub mod MemberWriting
 pub mod PassingRounds
-pub mod Talking
+pub mod WalkByLines
 pub mod Headline

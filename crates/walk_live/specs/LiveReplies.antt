@@ -1,6 +1,6 @@
 -- What is replied to the lines of a live text, each behind those before it: the answers to what it says, of the session of
 -- which the lines so far say all; or what is wrong with it.
-use Rattle.std.specs.Prelude.{ℕ, ◌+◌, ◌*◌, List, [], ◌∷◌, ◌++◌, length, Option, Some, None, Ok, Err}
+use Rattle.std.specs.Prelude.{ℕ, ◌+◌, ◌*◌, List, [], ◌∷◌, ◌++◌, length, Option, is_some, option_map}
 use Rattle.text_lines.specs.WordsOfLine.{words}
 use Rattle.law_model.specs.Common.{Leg}
 use Rattle.law_model.specs.declared.script_types.Config.{Config}
@@ -11,7 +11,8 @@ use Rattle.text_captures.specs.packet_trace.StepText.{step_text}
 use Rattle.text_live.specs.LiveLines.{LineWrong, line_fault, opening_fault}
 use Rattle.text_live.specs.LiveReaderStands.{fault_at}
 use Rattle.text_live.specs.Sayings.{leg_in, line_saying, said_in, sayings}
-use Rattle.command_parts.specs.Dialogue.{Dialogue, Reply}
+use Rattle.command_parts.specs.Dialogue.{Dialogue}
+use Rattle.walk_live.specs.LiveTexts.{FaultNote, LiveText, dialogue_of}
 use Rattle.walk_live.specs.Notes.{live_fault_text, live_why}
 use Rattle.walk_live.specs.declared.asked.Asked.{Asked}
 use Rattle.walk_live.specs.declared.asked.Asked.TheVariants.{Nothing, Steps, Members}
@@ -45,23 +46,20 @@ abbrev pub answer_to : Asked → Config → List Saying → Saying → List ℕ
 answer_to asked config said saying = answered_since asked (leg_said config (said ++ saying ∷ [])) said (saying ∷ [])
 
 -- ---- replies
--- a text; or the note on the fault of line n
-abbrev pub reply_by : ℕ → Option LineWrong → List ℕ → Reply
-reply_by n None text = Ok text
-reply_by n (Some wrong) text = Err (live_why (fault_at n wrong), live_fault_text (fault_at n wrong))
+-- the note on the fault of line n, where it has one
+abbrev pub note_at : ℕ → Option LineWrong → FaultNote
+note_at n found = option_map (λ wrong. (live_why (fault_at n wrong), live_fault_text (fault_at n wrong))) found
 
--- to a line behind others
-abbrev pub live_reply : Asked → List (List ℕ) → List ℕ → Reply
-live_reply asked ls line =
-    reply_by (length ls + 1) (line_fault (said_in ls) (words line))
-    (answered_since asked (leg_in (ls ++ line ∷ [])) (sayings ls) (line_saying line))
-
--- to the end of the text: the totals
-abbrev pub live_last : List (List ℕ) → Reply
-live_last ls =
-    reply_by (length ls + 1) (opening_fault (said_in ls).live (said_in ls).settings)
-    (last_text (leg_in ls) (sayings ls))
+abbrev pub live_text : LiveText
+live_text = record {
+  begun = λ ls. is_some (said_in ls).live;
+  fault = λ ls line. note_at (length ls + 1) (line_fault (said_in ls) (words line));
+  missing = λ ls. note_at (length ls + 1) (opening_fault (said_in ls).live (said_in ls).settings);
+  answer = λ asked ls line. answered_since asked (leg_in (ls ++ line ∷ [])) (sayings ls) (line_saying line);
+  -- the totals
+  last = λ ls. last_text (leg_in ls) (sayings ls);
+}
 
 -- by what is asked for
 abbrev pub live_dialogue : Asked → Dialogue
-live_dialogue asked = record { reply = live_reply asked; last = live_last }
+live_dialogue asked = dialogue_of live_text asked

@@ -200,7 +200,7 @@ impl AnsweredWalk {
             ++ (queue_lines self.old.tells self.old.waiting self.new.waiting ++ now_text ticks))) }
     {
         let before = self.waiting;
-        self.waiting = self.walk.waiting();
+        self.waiting = self.walk.way().waiting();
         match tell_queue(self.tells, before, self.waiting, block, out) {
             Ok(()) => tell_now(ticks, block, out),
             Err(Failed) => Err(Failed),
@@ -241,7 +241,7 @@ impl AnsweredWalk {
             HasStates self.now.tells leg self.now.lines (walking_counts self.now.walk).ticks result }
     {
         if self.tells == Asked::Members && self.walk.ticks() % 16 == 8 {
-            states_of(self.walk.table(), self.lines)
+            states_of(self.walk.way().table(), self.lines)
         } else {
             [SourceState::Idle; MOST_LINES]
         }
@@ -306,7 +306,7 @@ impl AnsweredWalk {
             b"member ",
             self.walk.ticks(),
             states,
-            self.walk.table(),
+            self.walk.way().table(),
             self.lines,
             &mut text,
         );
@@ -333,7 +333,7 @@ impl AnsweredWalk {
         let end = trace_line(
             note.packet,
             note.back,
-            self.walk.table(),
+            self.walk.way().table(),
             self.lines,
             &mut line,
         );

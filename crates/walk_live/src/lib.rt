@@ -6,6 +6,7 @@
 #![tactic(auto)]
 
 mod answered_walk;
+mod answerer;
 mod asked;
 mod live_command;
 mod live_laws;
@@ -14,10 +15,13 @@ mod live_talker;
 mod member_lines;
 mod number_lines;
 mod timed_lines;
+mod walk_by_lines;
 
+pub use answerer::Answerer;
 pub use asked::Asked;
 pub use live_command::live;
 pub use live_laws::live_law;
+pub use live_talker::converse;
 pub use member_lines::{MEMBERS_ROOM, lines_of_members, states_of};
 pub use number_lines::{tell_now, tell_number};
 pub use timed_lines::{TimedLines, Whose};

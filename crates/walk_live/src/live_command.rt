@@ -4,11 +4,12 @@ ghost use Rattle.command_parts.specs.Gives.{GivesTalk};
 ghost use Rattle.command_parts.specs.Dialogue.{talk_of};
 ghost use Rattle.walk_live.specs.LiveReplies.{live_dialogue};
 
+use crate::answered_walk::AnsweredWalk;
 use crate::asked::Asked;
-use crate::live_talker::LiveTalker;
-use command_parts::{Ran, Stop, talk};
+use crate::live_talker::converse;
+use command_parts::{Ran, Stop};
 use octet_io::{ByteSink, ByteSource};
-use std::alloc::{AllocError, Global};
+use std::alloc::Global;
 
 /// Answers a live text, with what is asked for of its decision steps and passes. A line is answered once its LF has
 /// come, and what is answered to the lines that have come is put on `out` before more is read. Want of memory is
@@ -23,8 +24,5 @@ pub fn live<S: ByteSource, K: ByteSink>(
         (lent K.written K.faults out.old out.new) (talk_of (live_dialogue tells))
         (λ _. Unit {0}) result }
 {
-    match LiveTalker::new(alloc, tells) {
-        Ok(talker) => talk(alloc, talker, source, out),
-        Err(AllocError) => Err(Stop::Memory),
-    }
+    converse::<AnsweredWalk, S, K>(alloc, tells, source, out)
 }

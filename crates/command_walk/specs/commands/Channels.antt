@@ -2,7 +2,7 @@
 use Rattle.std.specs.Prelude.{◌≡◌, ℕ, List, codes, Option, Some, None, Result, Ok, Err, if◌then◌else◌}
 use Rattle.text_lines.specs.declared.text_faults.LineFault.{LineFault}
 use Rattle.text_lines.specs.LineFaults.{kind_of}
-use Rattle.gfp_channels.specs.declared.channel_link.channel_keyword.Keyword.{Keyword}
+use Rattle.gfp_channels.specs.declared.channel_link.channel_keyword.ChannelKeyword.{ChannelKeyword}
 use Rattle.gfp_channels.specs.declared.channel_link.channel_text_fault.Overlap.{Overlap}
 use Rattle.gfp_channels.specs.channel_link.Helps.{help_of}
 use Rattle.gfp_channels.specs.declared.channel_link.channel_draft.ChannelPlan.{ChannelPlan}
@@ -19,7 +19,7 @@ abbrev pub channels_words : List (List ℕ) → Option WalkCommand
 channels_words words = if is_word (codes "channels") words then Some Channels else None
 
 -- of the plan that a text says, or of its first faulty line
-abbrev pub shared : Result ChannelPlan (ℕ × LineFault Keyword Overlap) → Answer
+abbrev pub shared : Result ChannelPlan (ℕ × LineFault ChannelKeyword Overlap) → Answer
 shared (Ok plan) = writes (plan_text plan)
 shared (Err at) = refuses Line (line_text at.0 (kind_of at.1) (help_of at.1))
 

@@ -7,8 +7,8 @@ use Rattle.law_pair.specs.declared.pair_events.Way.{Way}
 use Rattle.law_pair.specs.declared.pair_events.Way.TheVariants.{There, Back}
 use Rattle.text_scripts.specs.script_text.ScriptText.{script_text}
 use Rattle.command_parts.specs.Common.{Answer, answer_told, exceeds, writes}
-use Rattle.pair_walk.specs.declared.pair_script.script_pair.ScriptPair.{ScriptPair}
-use Rattle.pair_walk.specs.pair_script.Inputs.{pair_answer, pair_told}
+use Rattle.text_pairs.specs.declared.script_pair.ScriptPair.{ScriptPair}
+use Rattle.text_pairs.specs.Inputs.{pair_answer, pair_told}
 use Rattle.pair_walk.specs.OneWay.{way_script_of}
 use Rattle.command_walk.specs.declared.command_of_words.WalkCommand.{WalkCommand}
 use Rattle.command_walk.specs.declared.command_of_words.WalkCommand.TheVariants.{OneWay}

@@ -1,11 +1,10 @@
 //! `capture`: a script's walk is made, and the frames that it delivers are written as a capture.
 ghost use Rattle.std.specs.Prelude.{◌≡◌, ℕ, Ok, OnOk, OnErr, map, string_bytes};
-ghost use Rattle.octet_io.specs.Start.{Start};
 ghost use Rattle.octet_io.specs.Transfer.{Appends, AppendsPart};
 ghost use Rattle.law_model.specs.declared.script_types.Script.{Script};
 ghost use Rattle.law_model.specs.session.Leg.{leg_of};
 ghost use Rattle.law_model.specs.session.ValidScript.{IsValid};
-ghost use Rattle.law_model.specs.session.Counts.{begin, run};
+ghost use Rattle.law_model.specs.session.Counts.{begin};
 ghost use Rattle.law_walk.specs.Walk.{walk_plan};
 ghost use Rattle.law_walk.specs.DeliveredFrames.{delivered_of};
 ghost use Rattle.law_headline.specs.WalkTexts.{counts_in};
@@ -14,19 +13,18 @@ ghost use Rattle.text_captures.specs.capture_file.Reading.{capture_said};
 ghost use Rattle.command_parts.specs.Task.{reads};
 ghost use Rattle.command_parts.specs.Ends.{lent};
 ghost use Rattle.command_parts.specs.Gives.{GivesAlone};
-ghost use Rattle.command_walk.specs.commands.Capture.{HasTaken, taken_frames, capture_octets, capture_words};
+ghost use Rattle.command_walk.specs.commands.Capture.{taken_frames, capture_octets, capture_words};
 ghost use Rattle.command_walk.specs.commands.Capture.{capture_answer};
-ghost use Rattle.command_walk.specs.TracedWalk.{events_of, IsTurn};
 ghost use Rattle.command_walk.specs.HandedWalk.{HandsScript};
 
 use crate::command_of_words::WalkCommand;
-use crate::turns::next_turns::TurnsLeft;
 use crate::turns::ready_walk::read_walk;
-use crate::turns::trace_turns::{Turn, make_turn};
+use crate::turns::watched_turns::{Turn, Watcher, drive, make_turn};
 use command_parts::{Ran, Stop};
 use law_model::EventLine;
 use octet_io::{ByteSink, ByteSource, Failed, take_back};
 use std::alloc::Global;
+use std::convert::Infallible;
 use text_captures::capture_file::CaptureOut;
 use walk_engine::walk_core::Walk;
 
@@ -40,38 +38,20 @@ pub fn words(words: &[String]) -> Option<WalkCommand>
     }
 }
 
-/// Makes a turn. A row that it takes is the next one.
-fn capture_turn<K: ByteSink>(walk: &mut Walk, turn: Turn, out: &mut CaptureOut<K>)
-    requires { IsTurn (walk_plan (leg_of walk.old.script)) turn }
-    ensures script { walk.new.script ≡ walk.old.script }
-    ensures counts { let plan = walk_plan (leg_of walk.old.script) in
-        walk.new.counts ≡ run plan walk.old.counts (events_of plan turn) }
-    ensures taken { (start : Start) → HasTaken K.written K.faults out.old start walk.old →
-        HasTaken K.written K.faults out.new start walk.new }
-{
-    out.begin_row(walk.totals().taken);
-    make_turn(walk, turn, out);
-}
+impl<'a, K: ByteSink> Watcher for CaptureOut<'a, K> {
+    type Fault = Infallible;
 
-/// Makes what the event lines of a walk's script say. Where there are none, it drains.
-fn capture_lines<K: ByteSink>(
-    walk: &mut Walk,
-    lines: &[EventLine],
-    ticks: u32,
-    out: &mut CaptureOut<K>,
-)
-    requires valid { IsValid walk.old.script }
-    requires events { lines.now ≡ walk.old.script.events }
-    requires begun { walk.old.counts ≡ begin (walk_plan (leg_of walk.old.script)) }
-    requires ticks { ticks ≡ walk.old.script.config.ticks }
-    ensures script { walk.new.script ≡ walk.old.script }
-    ensures counts { walk.new.counts ≡ counts_in walk.old.script }
-    ensures taken { (start : Start) → HasTaken K.written K.faults out.old start walk.old →
-        HasTaken K.written K.faults out.new start walk.new }
-{
-    let mut turns = TurnsLeft::new(lines, ticks);
-    while let Some(turn) = turns.next(walk.totals().taken) {
-        capture_turn(walk, turn, out);
+    ghost use Rattle.octet_io.specs.Start.{Start};
+    ghost use Rattle.command_walk.specs.commands.Capture.{HasTaken};
+
+    ghost Before = { Start };
+
+    ghost has_seen = { λ out start walk. HasTaken K.written K.faults out start walk };
+
+    fn turn(&mut self, walk: &mut Walk, turn: Turn) -> Result<(), Infallible> {
+        self.begin_row(walk.totals().taken);
+        make_turn(walk, turn, self);
+        Ok(())
     }
 }
 
@@ -94,7 +74,7 @@ fn write_capture<K: ByteSink>(
         (AppendsPart K.written K.faults out.old out.new (capture_octets walk.old.script)) }
 {
     let mut capture = CaptureOut::new(out);
-    capture_lines(walk, lines, ticks, &mut capture);
+    let Ok(()) = drive(walk, lines, ticks, &mut capture);
     let (back, end) = capture.finish();
     take_back(back);
     end

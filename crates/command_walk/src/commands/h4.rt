@@ -2,7 +2,7 @@
 //! for each multiframe of sixteen frames. `decode` reads them; what it finds says `h4_law`.
 ghost use Rattle.std.specs.Prelude.{◌≡◌, ◌≤◌, ◌<◌, ◌+◌, ◌-◌, ◌++◌, ◌/◌, ℕ, List, length, IfOk, OnOk, OnErr, map};
 ghost use Rattle.std.specs.Prelude.{string_bytes};
-ghost use Rattle.law_model.specs.Common.{Appends, AppendsPart, Start, leg_of, begin, run, IsValid, decoded_text};
+ghost use Rattle.law_model.specs.Common.{Appends, AppendsPart, Start, leg_of, begin, IsValid, decoded_text};
 ghost use Rattle.law_model.specs.packets.Decode.{packets_in};
 ghost use Rattle.law_model.specs.declared.script_types.Script.{Script};
 ghost use Rattle.law_walk.specs.Common.{walk_plan, sent_at};
@@ -15,16 +15,14 @@ ghost use Rattle.command_parts.specs.Gives.{GivesAlone};
 ghost use Rattle.command_walk.specs.commands.H4.{line_of, h4_words, h4_octets, multiframe_text, h4_text, no_line_text};
 ghost use Rattle.command_walk.specs.commands.H4.{h4_answer, sent_packets};
 ghost use Rattle.command_walk.specs.commands.Decode.{decode_answer};
-ghost use Rattle.command_walk.specs.TracedWalk.{events_of, IsTurn};
 ghost use Rattle.command_walk.specs.HandedWalk.{HandsScript};
 
 use crate::command_of_words::WalkCommand;
-use crate::turns::next_turns::TurnsLeft;
 use crate::turns::ready_walk::read_walk;
-use crate::turns::trace_turns::{Turn, silent_turn};
+use crate::turns::watched_turns::{Turn, Watcher, drive, make_turn};
 use command_parts::{Fault, Ran, Refusal, Stop};
 use command_words::number_within;
-use law_model::EventLine;
+use law_model::{EventLine, Silent};
 use octet_io::{ByteSink, ByteSource, Failed, take_back};
 use std::alloc::{AllocError, Global};
 use text_got::GotLines;
@@ -61,52 +59,37 @@ fn last_octet(walk: &Walk, line: u8) -> u8
         // No packet was begun.
         return mfi1;
     }
-    let nibbles = walk.table().packet(line).nibbles();
+    let nibbles = walk.live().way().table().packet(line).nibbles();
     16 * nibbles[((frame - 8) % 16) as usize] + mfi1
 }
 
-/// Makes a turn, and adds the octet of the frame that it makes, where it makes one.
-fn send_turn(walk: &mut Walk, turn: Turn, line: u8, octets: &mut Vec<u8>) -> Result<(), AllocError>
-    requires valid { IsValid walk.old.script }
-    requires turn { IsTurn (walk_plan (leg_of walk.old.script)) turn }
-    requires octets { octets.old.items ≡ h4_octets walk.old.script line walk.old.counts.ticks }
-    ensures script { walk.new.script ≡ walk.old.script }
-    ensures counts { let plan = walk_plan (leg_of walk.old.script) in
-        walk.new.counts ≡ run plan walk.old.counts (events_of plan turn) }
-    ensures octets { OnOk result
-        (octets.new.items ≡ h4_octets walk.new.script line walk.new.counts.ticks) }
-{
-    let ticks = walk.totals().ticks;
-    silent_turn(walk, turn);
-    if walk.totals().ticks > ticks {
-        octets.push(last_octet(walk, line))?;
-    }
-    Ok(())
+/// The H4 octets that are sent on a line.
+#[derive(Drop)]
+struct SentOctets {
+    line: u8,
+    octets: Vec<u8>,
 }
 
-/// Makes what the event lines of a walk's script say. Where there are none, it drains.
-fn send_event_lines(
-    walk: &mut Walk,
-    lines: &[EventLine],
-    ticks: u32,
-    line: u8,
-    octets: &mut Vec<u8>,
-) -> Result<(), AllocError>
-    requires valid { IsValid walk.old.script }
-    requires events { lines.now ≡ walk.old.script.events }
-    requires begun { walk.old.counts ≡ begin (walk_plan (leg_of walk.old.script)) }
-    requires ticks { ticks ≡ walk.old.script.config.ticks }
-    requires octets { octets.old.items ≡ h4_octets walk.old.script line walk.old.counts.ticks }
-    ensures script { walk.new.script ≡ walk.old.script }
-    ensures counts { OnOk result (walk.new.counts ≡ counts_in walk.old.script) }
-    ensures octets { OnOk result
-        (octets.new.items ≡ h4_octets walk.new.script line walk.new.counts.ticks) }
-{
-    let mut turns = TurnsLeft::new(lines, ticks);
-    while let Some(turn) = turns.next(walk.totals().taken) {
-        send_turn(walk, turn, line, octets)?;
+impl Watcher for SentOctets {
+    type Fault = AllocError;
+
+    ghost use Rattle.std.specs.Prelude.{◌≡◌, ℕ};
+    ghost use Rattle.command_walk.specs.commands.H4.{h4_octets};
+
+    // the line
+    ghost Before = { ℕ };
+
+    ghost has_seen = { λ sent line walk. (sent.line ≡ line)
+        × (sent.octets.items ≡ h4_octets walk.script line walk.counts.ticks) };
+
+    fn turn(&mut self, walk: &mut Walk, turn: Turn) -> Result<(), AllocError> {
+        let ticks = walk.totals().ticks;
+        make_turn(walk, turn, &mut Silent);
+        if walk.totals().ticks > ticks {
+            self.octets.push(last_octet(walk, self.line))?;
+        }
+        Ok(())
     }
-    Ok(())
 }
 
 /// Makes a walk. Answers the H4 octets that its source sends on a line.
@@ -126,9 +109,10 @@ fn sent_octets(
     ensures octets { IfOk result (λ octets.
         octets.items ≡ h4_octets walk.old.script line (counts_in walk.old.script).ticks) }
 {
-    let mut octets = Vec::new(alloc);
-    send_event_lines(walk, lines, ticks, line, &mut octets)?;
-    Ok(octets)
+    let octets = Vec::new(alloc);
+    let mut sent = SentOctets { line, octets };
+    drive(walk, lines, ticks, &mut sent)?;
+    Ok(sent.octets)
 }
 
 /// Writes the line of text of a multiframe.

@@ -10,9 +10,9 @@ use command_parts::{Ran, Stop};
 use law_model::FrameRoom;
 use octet_io::{ByteSink, ByteSource};
 use pair_engine::Way;
-use pair_walk::pair_script::{read_pair, stop_of_pair};
 use pair_walk::way_script;
 use std::alloc::{AllocError, Global};
+use text_pairs::{read_pair, stop_of_pair};
 use text_scripts::script_text::{is_too_long, write_script};
 use walk_engine::walk_core::Walk;
 

@@ -4,16 +4,16 @@ ghost use Rattle.std.specs.Prelude.{◌≡◌, None, map, string_bytes};
 ghost use Rattle.command_parts.specs.Task.{reads};
 ghost use Rattle.command_parts.specs.Ends.{lent};
 ghost use Rattle.command_parts.specs.Gives.{Gives};
-ghost use Rattle.pair_walk.specs.ReportsOfWays.{pair_reply};
+ghost use Rattle.text_pairs.specs.ReportsOfWays.{pair_reply};
 ghost use Rattle.command_walk.specs.commands.Pair.{pair_words};
 
 use crate::command_of_words::WalkCommand;
 use command_parts::{Ran, Stop};
 use octet_io::{ByteSink, ByteSource};
 use pair_engine::Pair;
-use pair_walk::pair_script::{ScriptPair, read_pair};
 use pair_walk::write_pair;
 use std::alloc::{AllocError, Global};
+use text_pairs::{ScriptPair, read_pair};
 use walk_engine::walk_core::Walk;
 
 /// The words `pair`.

@@ -13,12 +13,15 @@ ghost use Rattle.command_walk.specs.commands.Walk.{walk_words, walk_answer};
 ghost use Rattle.command_walk.specs.HandedWalk.{HandsScript};
 
 use crate::command_of_words::WalkCommand;
-use crate::turns::ready_walk::{LinesAndTicks, read_walk};
-use crate::turns::trace_turns::write_trace;
+use crate::turns::ready_walk::read_walk;
+use crate::turns::trace_turns::write_rest;
+use crate::turns::watched_turns::{Turn, Watcher, drive, make_turn};
 use command_parts::{Ran, Stop};
 use law_model::EventLine;
-use octet_io::{ByteSink, ByteSource, Failed};
+use octet_io::{ByteSink, ByteSource, Failed, take_back};
 use std::alloc::Global;
+use std::convert::Infallible;
+use text_got::GotLines;
 use walk_engine::walk_core::Walk;
 
 /// The words `walk`.
@@ -31,19 +34,20 @@ pub fn words(words: &[String]) -> Option<WalkCommand>
     }
 }
 
-/// Takes notes, and keeps none of them.
-#[derive(Drop)]
-struct Nowhere;
+impl<'a, K: ByteSink> Watcher for GotLines<'a, K> {
+    type Fault = Infallible;
 
-impl ByteSink for Nowhere {
-    ghost use Rattle.std.specs.Prelude.{None};
+    ghost use Rattle.octet_io.specs.Start.{Start};
+    ghost use Rattle.command_walk.specs.TracedWalk.{HasRows};
 
-    ghost written = { λ nowhere. None };
+    ghost Before = { Start };
 
-    ghost faults = { λ nowhere. 0 };
+    ghost has_seen = { λ got start walk.
+        HasRows K.written K.faults got start walk walk.counts.rows };
 
-    fn put(&mut self, piece: &[u8]) -> Result<usize, Failed> {
-        Ok(piece.len())
+    fn turn(&mut self, walk: &mut Walk, turn: Turn) -> Result<(), Infallible> {
+        make_turn(walk, turn, self);
+        Ok(())
     }
 }
 
@@ -51,14 +55,13 @@ impl ByteSink for Nowhere {
 fn write_walk<K: ByteSink>(
     walk: &mut Walk,
     lines: &[EventLine],
-    size: LinesAndTicks,
+    ticks: u32,
     out: &mut K,
 ) -> Result<(), Failed>
     requires valid { IsValid walk.old.script }
     requires events { lines.now ≡ walk.old.script.events }
     requires begun { walk.old.counts ≡ begin (walk_plan (leg_of walk.old.script)) }
-    requires lines { size.lines ≡ walk.old.script.config.lines }
-    requires ticks { size.ticks ≡ walk.old.script.config.ticks }
+    requires ticks { ticks ≡ walk.old.script.config.ticks }
     ensures script { walk.new.script ≡ walk.old.script }
     ensures counts { walk.new.counts ≡ counts_in walk.old.script }
     ensures ok { OnOk result
@@ -66,7 +69,12 @@ fn write_walk<K: ByteSink>(
     ensures err { OnErr result
         (AppendsPart K.written K.faults out.old out.new (walk_text walk.old.script)) }
 {
-    write_trace(walk, lines, size, out, &mut Nowhere)
+    let mut got = GotLines::new(out);
+    let Ok(()) = drive(walk, lines, ticks, &mut got);
+    write_rest(walk, &mut got);
+    let (back, end) = got.finish();
+    take_back(back);
+    end
 }
 
 /// Reads a script, makes its walk and writes what comes of it.
@@ -85,7 +93,7 @@ pub fn walk<S: ByteSource, K: ByteSink>(
         Err(stop) => return Err(stop),
     };
     let mut walk = begun.walk;
-    let written = write_walk(&mut walk, begun.lines.as_slice(), begun.size, out);
+    let written = write_walk(&mut walk, begun.lines.as_slice(), begun.size.ticks, out);
     Ok(Ran {
         made: Some(walk),
         written,

@@ -5,23 +5,20 @@ ghost use Rattle.std.specs.Prelude.{◌≡◌, IfOk, IfErr, OnOk};
 ghost use Rattle.law_model.specs.declared.script_types.Script.{Script};
 ghost use Rattle.law_model.specs.session.Leg.{leg_of};
 ghost use Rattle.law_model.specs.session.ValidScript.{IsValid};
-ghost use Rattle.law_model.specs.session.Counts.{begin, run};
-ghost use Rattle.law_walk.specs.Walk.{walk_plan, IsWalked};
+ghost use Rattle.law_model.specs.session.Counts.{begin};
+ghost use Rattle.law_walk.specs.Walk.{walk_plan};
 ghost use Rattle.law_headline.specs.WalkTexts.{counts_in};
 ghost use Rattle.command_parts.specs.Task.{Answer};
 ghost use Rattle.command_parts.specs.Ends.{lent};
 ghost use Rattle.command_parts.specs.Scripts.{HasScript, script_answer};
 ghost use Rattle.command_parts.specs.Stops.{StopsReading};
-ghost use Rattle.command_walk.specs.TracedWalk.{events_of, IsTurn};
-ghost use Rattle.fate_walks.specs.walk_fates.Seen.{Sees};
 ghost use Rattle.fate_walks.specs.walk_fates.MadeWalk.{SeesWalk};
 
-use crate::turns::next_turns::TurnsLeft;
 use crate::turns::ready_walk::{LinesAndTicks, read_walk};
-use crate::turns::trace_turns::{Turn, silent_turn};
+use crate::turns::watched_turns::{Turn, Watcher, drive, make_turn};
 use command_parts::Stop;
 use fate_walks::walk_fates::{SeenRows, SeenWalk, nothing_seen, place_frames, see_since};
-use law_model::EventLine;
+use law_model::{EventLine, Silent};
 use octet_io::ByteSource;
 use std::alloc::{AllocError, Global};
 use walk_engine::walk_core::Walk;
@@ -35,47 +32,22 @@ pub struct WatchedWalk {
     pub seen: SeenWalk,
 }
 
-/// Makes a turn, and sees what came of it.
-fn see_turn(walk: &mut Walk, turn: Turn, seen: &mut SeenRows) -> Result<(), AllocError>
-    requires valid { IsValid walk.old.script }
-    requires walked { IsWalked (leg_of walk.old.script) walk.old.counts }
-    requires turn { IsTurn (walk_plan (leg_of walk.old.script)) turn }
-    requires seen { Sees
-        (leg_of walk.old.script) walk.old.counts.ticks walk.old.counts.rows seen.old }
-    ensures script { walk.new.script ≡ walk.old.script }
-    ensures counts { let plan = walk_plan (leg_of walk.old.script) in
-        walk.new.counts ≡ run plan walk.old.counts (events_of plan turn) }
-    ensures seen { OnOk result
-        (Sees (leg_of walk.new.script) walk.new.counts.ticks walk.new.counts.rows seen.new) }
-{
-    let totals = walk.totals();
-    silent_turn(walk, turn);
-    see_since(walk, totals.ticks, totals.taken, seen)
-}
+impl Watcher for SeenRows {
+    type Fault = AllocError;
 
-/// Makes what the event lines of a walk's script say. Where there are none, it drains.
-fn see_event_lines(
-    walk: &mut Walk,
-    lines: &[EventLine],
-    ticks: u32,
-    seen: &mut SeenRows,
-) -> Result<(), AllocError>
-    requires valid { IsValid walk.old.script }
-    requires events { lines.now ≡ walk.old.script.events }
-    requires begun { walk.old.counts ≡ begin (walk_plan (leg_of walk.old.script)) }
-    requires ticks { ticks ≡ walk.old.script.config.ticks }
-    requires seen { Sees
-        (leg_of walk.old.script) walk.old.counts.ticks walk.old.counts.rows seen.old }
-    ensures script { walk.new.script ≡ walk.old.script }
-    ensures counts { OnOk result (walk.new.counts ≡ counts_in walk.old.script) }
-    ensures seen { OnOk result
-        (Sees (leg_of walk.new.script) walk.new.counts.ticks walk.new.counts.rows seen.new) }
-{
-    let mut turns = TurnsLeft::new(lines, ticks);
-    while let Some(turn) = turns.next(walk.totals().taken) {
-        see_turn(walk, turn, seen)?;
+    ghost use Rattle.law_model.specs.session.Leg.{leg_of};
+    ghost use Rattle.fate_walks.specs.walk_fates.Seen.{Sees};
+
+    ghost Before = { Unit {0} };
+
+    ghost has_seen = { λ seen before walk.
+        Sees (leg_of walk.script) walk.counts.ticks walk.counts.rows seen };
+
+    fn turn(&mut self, walk: &mut Walk, turn: Turn) -> Result<(), AllocError> {
+        let totals = walk.totals();
+        make_turn(walk, turn, &mut Silent);
+        see_since(walk, totals.ticks, totals.taken, self)
     }
-    Ok(())
 }
 
 /// Makes the walk of a script, and sees it.
@@ -94,7 +66,7 @@ fn see_walk(
     ensures seen { IfOk result (SeesWalk (leg_of walk.new.script) walk.new.counts) }
 {
     let mut rows = nothing_seen(alloc, walk.script().config.size);
-    see_event_lines(walk, lines, size.ticks, &mut rows)?;
+    drive(walk, lines, size.ticks, &mut rows)?;
     let ruler = place_frames(alloc, walk, &rows.packets)?;
     Ok(SeenWalk { rows, ruler })
 }

@@ -8,7 +8,7 @@ ghost use Rattle.law_walk.specs.Walk.{walk_plan};
 ghost use Rattle.law_headline.specs.WalkTexts.{counts_in};
 ghost use Rattle.command_walk.specs.TurnsLeft.{once, turns_once, line_turns, IsPending, AreLeft, GivesTurn};
 
-use crate::turns::trace_turns::Turn;
+use crate::turns::watched_turns::Turn;
 use law_model::{Event, EventLine};
 
 /// What is left of an event line.

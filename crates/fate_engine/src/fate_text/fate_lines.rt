@@ -11,7 +11,7 @@ use law_model::Refusal;
 use text_report::{TextCursor, add_refusal};
 
 /// Room for a line, in octets.
-pub const ROOM: usize = 192;
+pub const FATE_LINE_ROOM: usize = 192;
 
 /// What is confirmed first in a segment: whether a piece begins there, and the row of the place.
 #[derive(Clone, Copy)]

@@ -7,6 +7,6 @@
 mod fate_lines;
 
 pub use fate_lines::{
-    ROOM, Tally, ToldMark, add_cause, add_refused, fate_line, fates_line, refused_line,
+    FATE_LINE_ROOM, Tally, ToldMark, add_cause, add_refused, fate_line, fates_line, refused_line,
     segment_line, spoiled_line, truth,
 };

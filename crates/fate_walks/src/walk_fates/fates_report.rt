@@ -14,7 +14,8 @@ use crate::walk_fates::seen_rows::SeenWalk;
 use crate::walk_frames::{FrameCursor, LandedFrame};
 use fate_engine::fate_core::{Fate, FateTotals, RowSegment, SpoiledRun, fate, starts_true};
 use fate_engine::fate_text::{
-    ROOM, Tally, ToldMark, fate_line, fates_line, refused_line, segment_line, spoiled_line,
+    FATE_LINE_ROOM, Tally, ToldMark, fate_line, fates_line, refused_line, segment_line,
+    spoiled_line,
 };
 use law_model::Refusal;
 use octet_io::{ByteSink, Failed, take_back};
@@ -38,7 +39,7 @@ fn write_runs<K: ByteSink>(runs: &[SpoiledRun], got: &mut GotLines<K>)
         HasText K.written K.faults got.old start before →
         HasText K.written K.faults got.new start (before ++ flat_map spoiled_text runs.now) }
 {
-    let mut line = [0u8; ROOM];
+    let mut line = [0u8; FATE_LINE_ROOM];
     for run in runs {
         let end = spoiled_line(*run, &mut line);
         got.line(&line[..end]);
@@ -74,7 +75,7 @@ fn write_segment<K: ByteSink>(i: usize, walk: &Walk, seen: &SeenWalk, got: &mut 
     let Some(segment) = seen.rows.segments.later(i) else {
         return;
     };
-    let mut line = [0u8; ROOM];
+    let mut line = [0u8; FATE_LINE_ROOM];
     let end = segment_line(segment, told_mark(segment, walk, seen), &mut line);
     got.line(&line[..end]);
 }
@@ -117,7 +118,7 @@ fn write_refused<K: ByteSink>(
     ensures count { ended.new ≡ counted_end ended.old (refused why) }
 {
     ended.refused += 1;
-    let mut line = [0u8; ROOM];
+    let mut line = [0u8; FATE_LINE_ROOM];
     let end = refused_line(frame.number, frame.due, why, &mut line);
     got.line(&line[..end]);
 }
@@ -140,7 +141,7 @@ fn write_accepted<K: ByteSink>(
 {
     ended.frames += 1;
     ended.totals.add(fate);
-    let mut line = [0u8; ROOM];
+    let mut line = [0u8; FATE_LINE_ROOM];
     let end = fate_line(frame.number, frame.due, fate, &mut line);
     got.line(&line[..end]);
 }
@@ -216,7 +217,7 @@ fn write_end<K: ByteSink>(walk: &Walk, seen: &SeenWalk, ended: EndedCount, got: 
         refused: ended.refused,
     };
     let starts = starts_true(&seen.ruler, &seen.rows.segments);
-    let mut line = [0u8; ROOM];
+    let mut line = [0u8; FATE_LINE_ROOM];
     let end = fates_line(totals.ticks, totals.taken, tally, starts, &mut line);
     got.line(&line[..end]);
 }

@@ -47,7 +47,7 @@ fn see_known(walk: &Walk, row: u32, packets: &mut Packets) -> Result<(), AllocEr
     if !ends_packet(row) {
         return Ok(());
     }
-    packets.push_known(walk.way().knows())
+    packets.push_known(walk.live().way().knows())
 }
 
 /// Sees a row, which was taken last.
@@ -66,7 +66,7 @@ fn see_row(walk: &Walk, row: u32, seen: &mut SeenRows) -> Result<(), AllocError>
     seen.runs.row(cause)?;
     let end = seen.packets.place(row + 1);
     seen.segments
-        .row(cause.is_none(), end, walk.way().first_confirmed())
+        .row(cause.is_none(), end, walk.live().way().first_confirmed())
 }
 
 /// Sees what came of a turn, after so many ticks and rows. Where memory is short the segments are as they
@@ -86,7 +86,7 @@ pub fn see_since(walk: &Walk, ticks: u32, rows: u32, seen: &mut SeenRows) -> Res
 {
     let totals = walk.totals();
     if is_step(ticks, totals.ticks) {
-        seen.packets.push(walk.table().active())?;
+        seen.packets.push(walk.live().way().table().active())?;
     }
     if totals.taken == rows {
         return Ok(());

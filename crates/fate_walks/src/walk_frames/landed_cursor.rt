@@ -60,12 +60,12 @@ impl<'a> FrameCursor<'a> {
         ensures at { IsAt (leg_of walk.now.script) walk.now.counts result }
         ensures first { result.item ≡ 0 }
     {
-        let mut refusals = walk.refusals();
+        let mut refusals = walk.landing().refusals();
         FrameCursor {
             item: 0,
             refused: refusals.next(),
             refusals,
-            left: walk.landed_frames(),
+            left: walk.landing().landed(true),
         }
     }
 

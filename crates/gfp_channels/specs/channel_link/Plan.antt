@@ -3,18 +3,18 @@ use Rattle.std.specs.Prelude.{⊤, ◌≤◌, ◌<◌, ◌^◌, ℕ, List, [], �
 use Rattle.text_lines.specs.LanguageTable.{said_in, formed}
 use Rattle.text_lines.specs.declared.text_faults.LineFault.{LineFault}
 use Rattle.gfp_model.specs.declared.linear_model.Cut.{Cut}
-use Rattle.gfp_channels.specs.declared.channel_link.channel_keyword.Keyword.{Keyword}
+use Rattle.gfp_channels.specs.declared.channel_link.channel_keyword.ChannelKeyword.{ChannelKeyword}
 use Rattle.gfp_channels.specs.declared.channel_link.channel_text_fault.Overlap.{Overlap}
-use Rattle.gfp_channels.specs.declared.channel_link.channel_draft.Draft.{Draft}
+use Rattle.gfp_channels.specs.declared.channel_link.channel_draft.ChannelDraft.{ChannelDraft}
 use Rattle.gfp_channels.specs.declared.channel_link.channel_draft.Offer.{Offer}
 use Rattle.gfp_channels.specs.declared.channel_link.channel_draft.ChannelPlan.{ChannelPlan}
 use Rattle.gfp_channels.specs.channel_link.ChannelTextLines.{plan_table}
 
-abbrev pub plan_in : Draft → ChannelPlan
+abbrev pub plan_in : ChannelDraft → ChannelPlan
 plan_in d = record { channels = d.channels; octets = d.octets; offers = d.offers; cuts = d.cuts }
 
 -- a plan, or the number of the first faulty line, counted from 1, and what is wrong with it
-abbrev pub plan_of : List ℕ → Result ChannelPlan (ℕ × LineFault Keyword Overlap)
+abbrev pub plan_of : List ℕ → Result ChannelPlan (ℕ × LineFault ChannelKeyword Overlap)
 plan_of text = formed plan_in (said_in plan_table text)
 
 -- cuts that have octets, none of which is before a place or behind another one, and each begins where the one before it

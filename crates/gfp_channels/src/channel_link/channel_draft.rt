@@ -64,7 +64,7 @@ pub struct ChannelPlan {
 
 /// What the lines so far say.
 #[derive(Drop)]
-pub(super) struct Draft {
+pub(super) struct ChannelDraft {
     /// The number of channels.
     pub channels: u16,
     /// The number of octets of the stream.

@@ -7,7 +7,7 @@ use text_lines::spells;
 
 /// The words that may begin a line, in the order of a text.
 #[derive(Clone, Copy, Debug, PartialEq, Eq)]
-pub enum Keyword {
+pub enum ChannelKeyword {
     /// The number of channels.
     Channels,
     /// The number of octets of the stream.
@@ -18,26 +18,26 @@ pub enum Keyword {
     Cut,
 }
 
-impl Keyword {
+impl ChannelKeyword {
     /// The keyword that a word is.
-    pub(super) fn of(word: &[u8]) -> Option<Keyword>
+    pub(super) fn of(word: &[u8]) -> Option<ChannelKeyword>
         ensures { result ≡ keyword_of word.now }
     {
         if spells(word, b"channels") {
-            Some(Keyword::Channels)
+            Some(ChannelKeyword::Channels)
         } else if spells(word, b"octets") {
-            Some(Keyword::Octets)
+            Some(ChannelKeyword::Octets)
         } else if spells(word, b"frame") {
-            Some(Keyword::Frame)
+            Some(ChannelKeyword::Frame)
         } else if spells(word, b"cut") {
-            Some(Keyword::Cut)
+            Some(ChannelKeyword::Cut)
         } else {
             None
         }
     }
 }
 
-impl LineWords for Keyword {
+impl LineWords for ChannelKeyword {
     ghost use Rattle.std.specs.Prelude.{codes};
     ghost use Rattle.gfp_channels.specs.channel_link.Helps.{keyword_text};
 
@@ -47,10 +47,10 @@ impl LineWords for Keyword {
 
     fn word(self) -> &'static [u8] {
         match self {
-            Keyword::Channels => b"channels",
-            Keyword::Octets => b"octets",
-            Keyword::Frame => b"frame",
-            Keyword::Cut => b"cut",
+            ChannelKeyword::Channels => b"channels",
+            ChannelKeyword::Octets => b"octets",
+            ChannelKeyword::Frame => b"frame",
+            ChannelKeyword::Cut => b"cut",
         }
     }
 

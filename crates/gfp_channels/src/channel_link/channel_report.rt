@@ -15,7 +15,7 @@ pub(super) const FRAME_ROOM: usize = 2 * LONGEST_FRAME + 1;
 
 /// What became of frames.
 #[derive(Clone, Copy)]
-pub(super) struct Counts {
+pub(super) struct ChannelCounts {
     /// How many were accepted.
     pub accepted: u64,
     /// How many were refused.
@@ -72,7 +72,7 @@ pub(super) fn refused_line(item: u64, why: ChannelFault, out: &mut [u8]) -> usiz
 }
 
 /// Puts the last line together.
-pub(super) fn end_line(counts: Counts, out: &mut [u8]) -> usize
+pub(super) fn end_line(counts: ChannelCounts, out: &mut [u8]) -> usize
     requires { 128 ≤ length out.old }
     ensures within { result ≤ 128 }
     ensures line { take result out.new

@@ -10,7 +10,7 @@ ghost use Rattle.gfp_channels.specs.channel_link.Run.{IsReady, Received};
 
 use crate::channel_link::channel_draft::{ChannelPlan, Offer};
 use crate::channel_link::channel_reception::{Reception, send_all};
-use crate::channel_link::channel_report::{Counts, LINE_ROOM, end_line, refused_line};
+use crate::channel_link::channel_report::{ChannelCounts, LINE_ROOM, end_line, refused_line};
 use crate::gfp_linear::{LinearDelineator, LinearQueue};
 use gfp_fill::Filler;
 use gfp_model::linear_model::{ChannelFault, Cut};
@@ -165,7 +165,7 @@ impl ChannelRun {
         let count = refused.len() as u64;
         let mut line = [0u8; LINE_ROOM];
         let end = end_line(
-            Counts {
+            ChannelCounts {
                 accepted: plan.offers.count() - count,
                 refused: count,
                 got,

@@ -8,7 +8,7 @@ ghost use Rattle.std.specs.Prelude.{◌≡◌, ◌↔◌, ℕ, List, [], length,
 ghost use Rattle.std.specs.Str.Lines.{lines};
 ghost use Rattle.text_lines.specs.FirstFault.{IsFirstFault};
 ghost use Rattle.text_lines.specs.declared.text_faults.LineFault.{LineFault};
-ghost use Rattle.gfp_channels.specs.declared.channel_link.channel_keyword.Keyword.{Keyword};
+ghost use Rattle.gfp_channels.specs.declared.channel_link.channel_keyword.ChannelKeyword.{ChannelKeyword};
 ghost use Rattle.gfp_channels.specs.declared.channel_link.channel_text_fault.Overlap.{Overlap};
 ghost use Rattle.gfp_channels.specs.channel_link.ChannelTextLines.{plan_lines};
 ghost use Rattle.gfp_channels.specs.declared.channel_link.channel_draft.ChannelPlan.{ChannelPlan};
@@ -28,14 +28,14 @@ mod read_channel_line;
 mod read_channel_text;
 
 pub use channel_draft::{ChannelPlan, CutList, Offer, OfferList};
-pub use channel_keyword::Keyword;
+pub use channel_keyword::ChannelKeyword;
 pub use channel_run::ChannelRun;
 pub use channel_text_fault::Overlap;
 pub use read_channel_text::read_plan;
 
 /// A text has the fault of a line exactly where that line is faulty after lines none of which is.
 pub fn fault_law()
-    ensures { (text : List ℕ) (number : ℕ) (fault : LineFault Keyword Overlap) →
+    ensures { (text : List ℕ) (number : ℕ) (fault : LineFault ChannelKeyword Overlap) →
         (plan_of text ≡ Err (number, fault))
         ↔ IsFirstFault plan_lines 1 plan_lines.first (lines text) number fault }
 {}

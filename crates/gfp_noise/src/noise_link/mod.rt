@@ -12,7 +12,7 @@ ghost use Rattle.gfp_noise.specs.noise_link.NoiseReportText.{untouched_text};
 ghost use Rattle.std.specs.Str.Lines.{lines};
 ghost use Rattle.text_lines.specs.FirstFault.{IsFirstFault};
 ghost use Rattle.text_lines.specs.declared.text_faults.LineFault.{LineFault};
-ghost use Rattle.gfp_noise.specs.declared.noise_link.noise_keyword.Keyword.{Keyword};
+ghost use Rattle.gfp_noise.specs.declared.noise_link.noise_keyword.NoiseKeyword.{NoiseKeyword};
 ghost use Rattle.gfp_noise.specs.declared.noise_link.noise_text_fault.NotRising.{NotRising};
 ghost use Rattle.gfp_noise.specs.noise_link.NoiseTextLines.{noise_lines};
 ghost use Rattle.gfp_noise.specs.noise_link.Noise.{noise_of, IsNoise};
@@ -28,14 +28,14 @@ mod read_noise_line;
 mod read_noise_text;
 
 pub use noise_draft::{FlipList, FrameList, Noise};
-pub use noise_keyword::Keyword;
+pub use noise_keyword::NoiseKeyword;
 pub use noise_run::NoiseRun;
 pub use noise_text_fault::NotRising;
 pub use read_noise_text::read_noise;
 
 /// A text has the fault of a line exactly where that line is faulty after lines none of which is.
 pub fn fault_law()
-    ensures { (text : List ℕ) (number : ℕ) (fault : LineFault Keyword NotRising) →
+    ensures { (text : List ℕ) (number : ℕ) (fault : LineFault NoiseKeyword NotRising) →
         (noise_of text ≡ Err (number, fault))
         ↔ IsFirstFault noise_lines 1 noise_lines.first (lines text) number fault }
 {}

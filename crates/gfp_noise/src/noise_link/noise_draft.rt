@@ -59,7 +59,7 @@ pub struct Noise {
 
 /// What the lines so far say.
 #[derive(Drop)]
-pub(super) struct Draft {
+pub(super) struct NoiseDraft {
     /// How many octets the stream has.
     pub size: u64,
     /// The first bit of the stream that the next flip may turn over. It is 0 where there was no flip yet.

@@ -9,7 +9,7 @@ pub(super) const END_ROOM: usize = 128;
 
 /// What became of frames.
 #[derive(Clone, Copy)]
-pub(super) struct Counts {
+pub(super) struct NoiseCounts {
     /// How many were sent.
     pub frames: u64,
     /// How many bits of their stream were turned over.
@@ -21,7 +21,7 @@ pub(super) struct Counts {
 }
 
 /// Puts the last line together.
-pub(super) fn end_line(counts: Counts, out: &mut [u8]) -> usize
+pub(super) fn end_line(counts: NoiseCounts, out: &mut [u8]) -> usize
     requires { 128 ≤ length out.old }
     ensures within { result ≤ 128 }
     ensures line { take result out.new

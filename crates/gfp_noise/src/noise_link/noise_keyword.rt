@@ -7,29 +7,29 @@ use text_lines::spells;
 
 /// The words that may begin a line, in the order of a text.
 #[derive(Clone, Copy, Debug, PartialEq, Eq)]
-pub enum Keyword {
+pub enum NoiseKeyword {
     /// A frame.
     Frame,
     /// A bit of the stream that is turned over.
     Flip,
 }
 
-impl Keyword {
+impl NoiseKeyword {
     /// The keyword that a word is.
-    pub(super) fn of(word: &[u8]) -> Option<Keyword>
+    pub(super) fn of(word: &[u8]) -> Option<NoiseKeyword>
         ensures { result ≡ keyword_of word.now }
     {
         if spells(word, b"frame") {
-            Some(Keyword::Frame)
+            Some(NoiseKeyword::Frame)
         } else if spells(word, b"flip") {
-            Some(Keyword::Flip)
+            Some(NoiseKeyword::Flip)
         } else {
             None
         }
     }
 }
 
-impl LineWords for Keyword {
+impl LineWords for NoiseKeyword {
     ghost use Rattle.std.specs.Prelude.{codes};
     ghost use Rattle.gfp_noise.specs.noise_link.Helps.{keyword_text};
 
@@ -39,8 +39,8 @@ impl LineWords for Keyword {
 
     fn word(self) -> &'static [u8] {
         match self {
-            Keyword::Frame => b"frame",
-            Keyword::Flip => b"flip",
+            NoiseKeyword::Frame => b"frame",
+            NoiseKeyword::Flip => b"flip",
         }
     }
 

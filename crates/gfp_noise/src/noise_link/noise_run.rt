@@ -6,7 +6,7 @@ ghost use Rattle.gfp_noise.specs.noise_link.NoiseReportText.{received, noise_tex
 
 use crate::gfp_fcs::FcsDelineator;
 use crate::noise_link::noise_draft::Noise;
-use crate::noise_link::noise_end_text::{Counts, END_ROOM, end_line};
+use crate::noise_link::noise_end_text::{END_ROOM, NoiseCounts, end_line};
 use crate::noise_link::noise_reception::{Reception, receive_all};
 use crate::noise_link::noisy_stream::{stream_of, turn_all};
 use octet_io::{ByteSink, Failed, take_back};
@@ -72,7 +72,7 @@ impl NoiseRun {
         } = reception;
         let mut line = [0u8; END_ROOM];
         let end = end_line(
-            Counts {
+            NoiseCounts {
                 frames: noise.frames.count(),
                 flips: noise.flips.count(),
                 got,

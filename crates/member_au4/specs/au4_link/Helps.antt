@@ -2,11 +2,11 @@
 use Rattle.std.specs.Prelude.{ℕ, ◌+◌, List, ◌++◌, codes, decimal}
 use Rattle.text_lines.specs.declared.text_faults.LineFault.{LineFault}
 use Rattle.text_help.specs.LineHelpTexts.{fault_text}
-use Rattle.member_au4.specs.declared.au4_link.au4_keyword.Keyword.{Keyword}
-use Rattle.member_au4.specs.declared.au4_link.au4_keyword.Keyword.TheVariants as word
+use Rattle.member_au4.specs.declared.au4_link.au4_keyword.Au4Keyword.{Au4Keyword}
+use Rattle.member_au4.specs.declared.au4_link.au4_keyword.Au4Keyword.TheVariants as word
 use Rattle.member_au4.specs.declared.au4_link.au4_text_fault.Early.{Early}
 
-abbrev pub keyword_text : Keyword → List ℕ
+abbrev pub keyword_text : Au4Keyword → List ℕ
 keyword_text word.Start = codes "start"
 keyword_text word.Frames = codes "frames"
 keyword_text word.Up = codes "up"
@@ -18,5 +18,5 @@ early_text last =
     codes "after frame " ++ decimal last.frame ++ codes " the next one is " ++ decimal (last.frame + 4)
     ++ codes " at least"
 
-abbrev pub help_of : LineFault Keyword Early → List ℕ
+abbrev pub help_of : LineFault Au4Keyword Early → List ℕ
 help_of fault = fault_text keyword_text (codes "start, frames, up, down, new") early_text fault

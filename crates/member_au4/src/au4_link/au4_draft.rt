@@ -27,7 +27,7 @@ pub struct Link {
 
 /// What the lines so far say.
 #[derive(Drop)]
-pub(super) struct Draft {
+pub(super) struct Au4Draft {
     /// The value at which the first part begins.
     pub start: u16,
     /// The number of frames.

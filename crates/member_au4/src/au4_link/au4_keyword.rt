@@ -7,7 +7,7 @@ use text_lines::spells;
 
 /// The words that may begin a line, in the order of a text.
 #[derive(Clone, Copy, Debug, PartialEq, Eq)]
-pub enum Keyword {
+pub enum Au4Keyword {
     /// The value at which the first part begins.
     Start,
     /// The number of frames.
@@ -20,28 +20,28 @@ pub enum Keyword {
     New,
 }
 
-impl Keyword {
+impl Au4Keyword {
     /// The keyword that a word is.
-    pub(super) fn of(word: &[u8]) -> Option<Keyword>
+    pub(super) fn of(word: &[u8]) -> Option<Au4Keyword>
         ensures { result ≡ keyword_of word.now }
     {
         if spells(word, b"start") {
-            Some(Keyword::Start)
+            Some(Au4Keyword::Start)
         } else if spells(word, b"frames") {
-            Some(Keyword::Frames)
+            Some(Au4Keyword::Frames)
         } else if spells(word, b"up") {
-            Some(Keyword::Up)
+            Some(Au4Keyword::Up)
         } else if spells(word, b"down") {
-            Some(Keyword::Down)
+            Some(Au4Keyword::Down)
         } else if spells(word, b"new") {
-            Some(Keyword::New)
+            Some(Au4Keyword::New)
         } else {
             None
         }
     }
 }
 
-impl LineWords for Keyword {
+impl LineWords for Au4Keyword {
     ghost use Rattle.std.specs.Prelude.{codes};
     ghost use Rattle.member_au4.specs.au4_link.Helps.{keyword_text};
 
@@ -51,11 +51,11 @@ impl LineWords for Keyword {
 
     fn word(self) -> &'static [u8] {
         match self {
-            Keyword::Start => b"start",
-            Keyword::Frames => b"frames",
-            Keyword::Up => b"up",
-            Keyword::Down => b"down",
-            Keyword::New => b"new",
+            Au4Keyword::Start => b"start",
+            Au4Keyword::Frames => b"frames",
+            Au4Keyword::Up => b"up",
+            Au4Keyword::Down => b"down",
+            Au4Keyword::New => b"new",
         }
     }
 

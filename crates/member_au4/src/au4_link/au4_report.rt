@@ -16,7 +16,7 @@ pub(super) const END_ROOM: usize = 128;
 
 /// What became of VC-4s.
 #[derive(Clone, Copy)]
-pub(super) struct Counts {
+pub(super) struct Au4Counts {
     /// The frames of the link.
     pub frames: u64,
     /// How many began.
@@ -48,7 +48,7 @@ impl<'a, K: ByteSink> VcOut for VcTexts<'a, K> {
 }
 
 /// Puts the last line together.
-pub(super) fn end_line(counts: Counts, out: &mut [u8]) -> usize
+pub(super) fn end_line(counts: Au4Counts, out: &mut [u8]) -> usize
     requires { 128 ≤ length out.old }
     ensures within { result ≤ 128 }
     ensures line { take result out.new

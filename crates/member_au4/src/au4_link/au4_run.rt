@@ -7,7 +7,7 @@ ghost use Rattle.member_au4.specs.au4_link.LinkReportText.{back_of, cut_after, e
 ghost use Rattle.member_au4.specs.au4_link.LinkReportText.{text_of, link_text, HasVcs};
 
 use crate::au4_link::au4_draft::Link;
-use crate::au4_link::au4_report::{Counts, END_ROOM, VcTexts, end_line};
+use crate::au4_link::au4_report::{Au4Counts, END_ROOM, VcTexts, end_line};
 use crate::au4_link::numbered_vcs::NumberedVcs;
 use crate::au4_pointer::{Action, AuFrame, PointerSink, PointerSource, VC, relay};
 use octet_io::{ByteSink, Failed, take_back};
@@ -26,7 +26,7 @@ fn cut_after(cut: u64, begun: u64, back: u64, a: Action) -> u64
 }
 
 /// Carries numbered VC-4s in frames of these actions.
-fn carry_all<K: ByteSink>(start: u16, actions: &[Action], out: &mut VcTexts<K>) -> Counts
+fn carry_all<K: ByteSink>(start: u16, actions: &[Action], out: &mut VcTexts<K>) -> Au4Counts
     requires start { start ≤ 782 }
     requires few { length actions.now ≤ 100000 }
     requires accepted { AreAccepted actions.now }
@@ -52,7 +52,7 @@ fn carry_all<K: ByteSink>(start: u16, actions: &[Action], out: &mut VcTexts<K>) 
             Err(_) => unreachable!(),
         }
     }
-    Counts {
+    Au4Counts {
         frames: actions.len() as u64,
         begun: feed.next,
         back: out.back,

@@ -7,7 +7,7 @@
 ghost use Rattle.std.specs.Prelude.{◌≡◌, ◌↔◌, ℕ, List, length, Ok, Err};
 ghost use Rattle.std.specs.Str.Lines.{lines};
 ghost use Rattle.text_lines.specs.declared.text_faults.LineFault.{LineFault};
-ghost use Rattle.member_au4.specs.declared.au4_link.au4_keyword.Keyword.{Keyword};
+ghost use Rattle.member_au4.specs.declared.au4_link.au4_keyword.Au4Keyword.{Au4Keyword};
 ghost use Rattle.member_au4.specs.declared.au4_link.au4_text_fault.Early.{Early};
 ghost use Rattle.text_lines.specs.FirstFault.{IsFirstFault};
 ghost use Rattle.member_au4.specs.au4_link.LinkTextLines.{link_lines};
@@ -31,7 +31,7 @@ mod read_au4_text;
 mod text_of_vc;
 
 pub use au4_draft::{ActionList, Link};
-pub use au4_keyword::Keyword;
+pub use au4_keyword::Au4Keyword;
 pub use au4_run::write_link;
 pub use au4_text_fault::Early;
 pub use read_au4_text::read_link;
@@ -39,7 +39,7 @@ pub use read_au4_text::read_link;
 /// A text has the fault of a line exactly where that line is faulty after lines none of which is, or where no
 /// line is faulty and one that has to be there isn't.
 pub fn fault_law()
-    ensures { (text : List ℕ) (number : ℕ) (fault : LineFault Keyword Early) →
+    ensures { (text : List ℕ) (number : ℕ) (fault : LineFault Au4Keyword Early) →
         (link_of text ≡ Err (number, fault))
         ↔ IsFirstFault link_lines 1 link_lines.first (lines text) number fault }
 {}

@@ -6,8 +6,8 @@ ghost use Rattle.text_lines.specs.LanguageTable.{rest_fault};
 ghost use Rattle.text_lines.specs.declared.text_faults.LineFault.TheVariants as wrong;
 ghost use Rattle.member_au4.specs.au4_link.LinkTextLines.{link_table, least_next, last_named, move_fault};
 
-use crate::au4_link::au4_draft::{ActionList, Draft};
-use crate::au4_link::au4_keyword::Keyword;
+use crate::au4_link::au4_draft::{ActionList, Au4Draft};
+use crate::au4_link::au4_keyword::Au4Keyword;
 use crate::au4_link::au4_text_fault::Early;
 use text_lines::{LineFault, LineStop, count_fault, number_within, one_number, two_words};
 
@@ -22,7 +22,7 @@ fn least_next(actions: &ActionList) -> u64
 
 /// Why a line that names a frame too early wasn't read. It never is Memory, though no clause says so: a link has at
 /// most 100,000 frames, and no action is behind the last.
-fn early_stop(draft: &Draft) -> LineStop<Keyword, Early>
+fn early_stop(draft: &Au4Draft) -> LineStop<Au4Keyword, Early>
     ensures { IsLineStop result (Some (wrong.Own (last_named draft.now))) }
 {
     let last = draft.actions.0.len().saturating_sub(1);
@@ -34,10 +34,10 @@ fn early_stop(draft: &Draft) -> LineStop<Keyword, Early>
 
 /// The frame of a move.
 pub(super) fn read_move(
-    draft: &Draft,
-    keyword: Keyword,
+    draft: &Au4Draft,
+    keyword: Au4Keyword,
     rest: &[u8],
-) -> Result<u32, LineStop<Keyword, Early>>
+) -> Result<u32, LineStop<Au4Keyword, Early>>
     ensures ok { IfOk result (λ frame. (move_fault draft.now keyword (words rest.now) ≡ None)
         × (frame ≡ number_at 0 (words rest.now))) }
     ensures behind { IfOk result (λ frame. length draft.now.actions ≤ frame) }
@@ -45,7 +45,7 @@ pub(super) fn read_move(
         IsLineStop stop (move_fault draft.now keyword (words rest.now))) }
 {
     let most = u64::from(draft.frames).saturating_sub(1);
-    let frame = one_number::<Keyword, Early>(keyword, rest, 1, most)?;
+    let frame = one_number::<Au4Keyword, Early>(keyword, rest, 1, most)?;
     if frame < least_next(&draft.actions) {
         return Err(early_stop(draft));
     }
@@ -53,16 +53,19 @@ pub(super) fn read_move(
 }
 
 /// The frame of a new value, and the value.
-pub(super) fn read_new(draft: &Draft, rest: &[u8]) -> Result<(u32, u16), LineStop<Keyword, Early>>
+pub(super) fn read_new(
+    draft: &Au4Draft,
+    rest: &[u8],
+) -> Result<(u32, u16), LineStop<Au4Keyword, Early>>
     ensures ok { IfOk result (λ read.
-        (rest_fault link_table draft.now Keyword.New (words rest.now) ≡ None)
+        (rest_fault link_table draft.now Au4Keyword.New (words rest.now) ≡ None)
         × (read.0 ≡ number_at 0 (words rest.now)) × (read.1 ≡ number_at 1 (words rest.now))) }
     ensures behind { IfOk result (λ read. length draft.now.actions ≤ read.0) }
     ensures err { IfErr result (λ stop.
-        IsLineStop stop (rest_fault link_table draft.now Keyword.New (words rest.now))) }
+        IsLineStop stop (rest_fault link_table draft.now Au4Keyword.New (words rest.now))) }
 {
     let Some((frame, value)) = two_words(rest) else {
-        return Err(LineStop::Fault(count_fault(Keyword::New, 2, rest)));
+        return Err(LineStop::Fault(count_fault(Au4Keyword::New, 2, rest)));
     };
     let most = u64::from(draft.frames).saturating_sub(1);
     let frame = number_within(frame, 2, 0, most)?;

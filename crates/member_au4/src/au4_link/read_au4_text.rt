@@ -5,8 +5,8 @@ ghost use Rattle.law_model.specs.Limits.{longest_input};
 ghost use Rattle.member_au4.specs.declared.au4_pointer.au_frame.Action.TheVariants.{Keep};
 ghost use Rattle.member_au4.specs.au4_link.Link.{link_in, link_of, IsLink};
 
-use crate::au4_link::au4_draft::{ActionList, Draft, Link};
-use crate::au4_link::au4_keyword::Keyword;
+use crate::au4_link::au4_draft::{ActionList, Au4Draft, Link};
+use crate::au4_link::au4_keyword::Au4Keyword;
 use crate::au4_link::au4_text_fault::Early;
 use crate::au4_link::read_au4_line::{read_move, read_new};
 use crate::au4_pointer::Action;
@@ -36,32 +36,32 @@ fn add_action(actions: &mut ActionList, frame: u32, a: Action) -> Result<(), All
     Ok(())
 }
 
-impl LineTable for Draft {
+impl LineTable for Au4Draft {
     ghost use Rattle.member_au4.specs.au4_link.LinkTextLines.{link_table};
 
-    type Keyword = Keyword;
+    type Keyword = Au4Keyword;
 
     type Own = Early;
 
     ghost table = { link_table };
 
-    fn at_start(alloc: Global) -> Draft {
-        Draft {
+    fn at_start(alloc: Global) -> Au4Draft {
+        Au4Draft {
             start: 0,
             frames: 0,
             actions: ActionList(Vec::new(alloc)),
         }
     }
 
-    fn keyword(word: &[u8]) -> Option<Keyword> {
-        Keyword::of(word)
+    fn keyword(word: &[u8]) -> Option<Au4Keyword> {
+        Au4Keyword::of(word)
     }
 
-    fn place(keyword: Keyword) -> u64 {
+    fn place(keyword: Au4Keyword) -> u64 {
         match keyword {
-            Keyword::Start => 0,
-            Keyword::Frames => 1,
-            Keyword::Up | Keyword::Down | Keyword::New => 2,
+            Au4Keyword::Start => 0,
+            Au4Keyword::Frames => 1,
+            Au4Keyword::Up | Au4Keyword::Down | Au4Keyword::New => 2,
         }
     }
 
@@ -69,41 +69,46 @@ impl LineTable for Draft {
         2
     }
 
-    fn awaited(next: u64) -> Keyword {
+    fn awaited(next: u64) -> Au4Keyword {
         if next == 0 {
-            Keyword::Start
+            Au4Keyword::Start
         } else {
-            Keyword::Frames
+            Au4Keyword::Frames
         }
     }
 
     fn add(
         &mut self,
         _alloc: Global,
-        keyword: Keyword,
+        keyword: Au4Keyword,
         rest: &[u8],
-    ) -> Result<(), LineStop<Keyword, Early>> {
+    ) -> Result<(), LineStop<Au4Keyword, Early>> {
         match keyword {
-            Keyword::Start => {
-                self.start = one_number::<Keyword, Early>(Keyword::Start, rest, 0, 782)? as u16;
+            Au4Keyword::Start => {
+                self.start = one_number::<Au4Keyword, Early>(
+                    Au4Keyword::Start,
+                    rest,
+                    0,
+                    782,
+                )? as u16;
             }
-            Keyword::Frames => {
-                self.frames = one_number::<Keyword, Early>(
-                    Keyword::Frames,
+            Au4Keyword::Frames => {
+                self.frames = one_number::<Au4Keyword, Early>(
+                    Au4Keyword::Frames,
                     rest,
                     1,
                     100_000,
                 )? as u32;
             }
-            Keyword::Up => {
-                let frame = read_move(self, Keyword::Up, rest)?;
+            Au4Keyword::Up => {
+                let frame = read_move(self, Au4Keyword::Up, rest)?;
                 add_action(&mut self.actions, frame, Action::Up)?;
             }
-            Keyword::Down => {
-                let frame = read_move(self, Keyword::Down, rest)?;
+            Au4Keyword::Down => {
+                let frame = read_move(self, Au4Keyword::Down, rest)?;
                 add_action(&mut self.actions, frame, Action::Down)?;
             }
-            Keyword::New => {
+            Au4Keyword::New => {
                 let (frame, value) = read_new(self, rest)?;
                 add_action(&mut self.actions, frame, Action::New(value))?;
             }
@@ -113,11 +118,11 @@ impl LineTable for Draft {
 }
 
 /// The link that a draft has become: Keep in all frames that no line named.
-fn finished(draft: Draft) -> Result<Link, AllocError>
+fn finished(draft: Au4Draft) -> Result<Link, AllocError>
     requires { length draft.actions ≤ draft.frames }
     ensures { IfOk result (λ link. link ≡ link_in draft) }
 {
-    let Draft {
+    let Au4Draft {
         start,
         frames,
         mut actions,
@@ -128,13 +133,13 @@ fn finished(draft: Draft) -> Result<Link, AllocError>
 
 /// The link that a text of at most 67,108,864 octets says. Else its first fault: that of the first faulty
 /// line. Want of memory may come in place of any answer. No action of the link is refused.
-pub fn read_link(alloc: Global, text: &[u8]) -> Result<Link, TextFault<Keyword, Early>>
+pub fn read_link(alloc: Global, text: &[u8]) -> Result<Link, TextFault<Au4Keyword, Early>>
     requires { length text.now ≤ longest_input }
     ensures link { IfOk result (λ link. link_of text.now ≡ Ok link) }
     ensures valid { IfOk result IsLink }
     ensures fault { IfErr result (λ fault. IsTextFault (link_of text.now) fault) }
 {
-    let draft = match read_text::<Draft>(alloc, text) {
+    let draft = match read_text::<Au4Draft>(alloc, text) {
         Ok(draft) => draft,
         Err(fault) => return Err(fault),
     };

@@ -7,7 +7,7 @@ ghost use Rattle.law_model.specs.Common.{frame_of, vc4_size, IsStatuses, most_li
 ghost use Rattle.member_cells.specs.HeldPlaces.{held};
 ghost use Rattle.terminal_source.specs.source_core.Terminal.{needed, SameKind};
 ghost use Rattle.terminal_source.specs.source_core.GivenScenario.{with_frame, with_command, with_cell, with_told};
-ghost use Rattle.terminal_source.specs.source_core.GivenScenario.{IsFresh, SourceStands, stream_now};
+ghost use Rattle.terminal_source.specs.source_core.GivenScenario.{IsFresh, SourceStands};
 
 use crate::lcas_source::{CommandFault, SourceTable};
 use crate::source_core::container_frame::{begin_all, fill_all};
@@ -137,29 +137,11 @@ impl SourceCore {
         self.table.remove(line)
     }
 
-    /// The first cause for which a frame would be refused now; none where it would be taken.
-    pub fn frame_refusal(&self, frame: &[u8]) -> Option<AcceptFault>
-        ensures { result ≡ refusal_while self.now.queue.waiting frame.now }
-    {
-        self.queue.refusal(frame)
-    }
-
     /// The first cause for which a command would be refused now; none where it would be taken.
     pub fn command_refusal(&self, command: Command) -> Option<CommandFault>
         ensures { result ≡ refusal self.now.lines command self.now.table.source }
     {
         self.table.refusal(command)
-    }
-
-    /// How many frames wait, at most 256: those that were accepted and of which no octet is made.
-    pub fn waiting(&self) -> u16
-        ensures count { result ≡ length self.now.queue.waiting }
-        ensures most { result ≤ 256 }
-        ensures stream { (scenario : Scenario) (cells : List (Option Told)) →
-            SourceStands self.now scenario cells →
-            result ≡ length (stream_now scenario cells self.now.ticks).waiting }
-    {
-        self.queue.waiting()
     }
 
     /// The number of the return cell that the next tick takes. It takes one exactly where it makes decision
@@ -231,6 +213,13 @@ impl SourceCore {
         ensures { result ≡ self.now.ticks }
     {
         self.ticks
+    }
+
+    /// The frames that were accepted and aren't sent yet.
+    pub fn queue(&self) -> &FrameQueue
+        ensures { result.now ≡ self.now.queue }
+    {
+        &self.queue
     }
 
     /// The table of the lines after the last decision step.

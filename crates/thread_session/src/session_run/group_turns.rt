@@ -6,7 +6,7 @@ ghost use Rattle.std.specs.Option.{is_some};
 ghost use Rattle.law_model.specs.Common.{leg_of, refusal_in};
 ghost use Rattle.law_model.specs.declared.script_types.Item.{Item};
 ghost use Rattle.law_walk.specs.Common.{is_client};
-ghost use Rattle.thread_group.specs.FaultsAndStops.{has_landed};
+ghost use Rattle.thread_group.specs.SubmitFaults.{has_landed};
 ghost use Rattle.thread_group.specs.Group.{HasCounted, next_brought};
 ghost use Rattle.thread_group.specs.HandedAhead.{handed_below};
 ghost use Rattle.thread_session.specs.session_parts.Flags.{heeded};
@@ -124,7 +124,7 @@ fn hand_in_ahead<Y: Session>(group: &mut BoundGroup<Y>, who: Who, items: &ItemLi
         number < handed_below group.new.handed (brings_frames who) }
 {
     let client = is_client(who);
-    let next = group.next(client).unwrap_or(u32::MAX);
+    let next = group.landing().next(client).unwrap_or(u32::MAX);
     if group.is_handed_in(client, next) {
         return None;
     }

@@ -2,10 +2,9 @@
 
 ghost use Rattle.std.specs.Prelude.{[], slice_index_or, slice_set};
 ghost use Rattle.std.specs.Prelude.{◌≡◌, ◌/◌, ◌%◌, ◌==◌, ◌<◌, ◌≤◌, if◌then◌else◌, length, Some, None, IfOk};
-ghost use Rattle.law_model.specs.Common.{IsNetwork, Leg, begin, step, steps_in, source_at};
+ghost use Rattle.law_model.specs.Common.{IsNetwork, Leg, begin, step};
 ghost use Rattle.law_model.specs.declared.walk_events.Event.TheVariants.{Tick, Carry, Back, Take};
-ghost use Rattle.law_walk.specs.Common.{is_client, landed_scenario, last_packet, table_in, told_before, totals_of};
-ghost use Rattle.law_walk.specs.Common.{walk_plan};
+ghost use Rattle.law_walk.specs.Common.{is_client, last_packet, totals_of, walk_plan};
 ghost use Rattle.member_path.specs.failure_window.OpenWindows.{CanClose, closed_at, last_end, opened_at};
 ghost use Rattle.terminal_group.specs.Item.{kind_of};
 ghost use Rattle.terminal_group.specs.SourceByCounts.{missing_from};
@@ -15,7 +14,7 @@ ghost use Rattle.walk_engine.specs.walk_core.LiveWalking.{LiveFinishes};
 ghost use Rattle.walk_engine.specs.walk_core.LiveWalking.{LiveRounds, LiveStands, walking_counts};
 ghost use Rattle.walk_engine.specs.walk_core.WalkAfterEvent.{answer_by, refusal_in_event, GivesRows};
 ghost use Rattle.walk_engine.specs.walk_core.OpenedWay.{HasWindows};
-ghost use Rattle.walk_engine.specs.walk_core.WayParts.{note_of, waiting_in, windows_in};
+ghost use Rattle.walk_engine.specs.walk_core.WayParts.{WayStands, counts_of, note_of, windows_in};
 ghost use Rattle.walk_engine.specs.walk_core.Take.{take_cause};
 ghost use Rattle.walk_engine.specs.walk_core.EventAnswers.{IsDue, IsNoneHeld};
 
@@ -28,7 +27,6 @@ use std::alloc::{AllocError, Global};
 use std::marker::Model;
 use terminal_group::ItemRef;
 use terminal_sink::sink_core::{TakeAnswer, ends_packet};
-use terminal_source::lcas_source::SourceTable;
 
 /// A walk that is told what lands as it lands, and which lines are cut and mended. What its calls do is said of
 /// each leg for which it stands: of each session that went so far as this one did, whatever lands in it later and
@@ -153,23 +151,7 @@ impl LiveWalk {
     pub fn ticks(&self) -> u32
         ensures { result ≡ (walking_counts self.now).ticks }
     {
-        self.way.ticks()
-    }
-
-    /// How many rows were taken.
-    pub fn taken(&self) -> u32
-        ensures { result ≡ (walking_counts self.now).rows }
-    {
-        self.way.taken()
-    }
-
-    /// How many frames wait, at most 256: those that were accepted and of which no octet is made.
-    pub fn waiting(&self) -> u16
-        ensures most { result ≤ 256 }
-        ensures waits { (leg : Leg) → LiveStands leg self.now →
-            result ≡ waiting_in leg (walking_counts self.now) }
-    {
-        self.way.waiting()
+        self.way.source().core().ticks()
     }
 
     /// What came of the walk so far, in numbers.
@@ -189,22 +171,13 @@ impl LiveWalk {
         self.last
     }
 
-    /// The table of the lines after the last decision step and the commands that were accepted since.
-    pub fn table(&self) -> &SourceTable
-        ensures source { (leg : Leg) → LiveStands leg self.now → result.now.source
-            ≡ source_at (landed_scenario leg (walking_counts self.now))
-            (told_before leg (walking_counts self.now).ticks)
-            (steps_in (walking_counts self.now).ticks) }
-        ensures table { (leg : Leg) → LiveStands leg self.now →
-            result.now.source.table ≡ table_in leg (walking_counts self.now).ticks }
-        ensures steps { result.now.steps ≡ steps_in (walking_counts self.now).ticks }
-    {
-        self.way.table()
-    }
-
-    /// Its direction.
-    pub(super) fn way(&self) -> &WayCore
-        ensures { result.now ≡ self.now.way }
+    /// Its direction. It stands for the same legs.
+    pub fn way(&self) -> &WayCore
+        ensures way { result.now ≡ self.now.way }
+        ensures stands { (leg : Leg) → LiveStands leg self.now →
+            WayStands leg (walking_counts self.now).backs result.now }
+        ensures counts { counts_of result.now (walking_counts self.now).backs
+            ≡ walking_counts self.now }
     {
         &self.way
     }
@@ -223,7 +196,7 @@ impl LiveWalk {
         if let Some(cause) = self.tick_stall() {
             return Moved::Stalled(cause);
         }
-        let ticks = self.way.ticks();
+        let ticks = self.way.source().core().ticks();
         let back = self.way.make(None);
         self.last = next_note(ticks, back, self.last);
         Moved::Yes
@@ -306,7 +279,7 @@ impl LiveWalk {
         if let Some(line) = self.way.first_full() {
             return Some(StallCause::TxFull { line });
         }
-        match self.way.missing() {
+        match self.way.source().missing() {
             Some(packet) => Some(StallCause::BackMissing { packet }),
             None => None,
         }
@@ -338,8 +311,8 @@ impl LiveWalk {
         requires { IsLive self.now }
         ensures { result ≡ take_cause self.now.way.source.total (walking_counts self.now) }
     {
-        let row = self.way.taken();
-        if row >= self.way.total_ticks() {
+        let row = self.way.sink().taken();
+        if row >= self.way.source().total_ticks() {
             Some(StallCause::Done)
         } else if ends_packet(row) && self.ring.is_full() {
             Some(StallCause::BackFull)

@@ -3,7 +3,7 @@
 ghost use Rattle.std.specs.Prelude.{◌≡◌, ℕ, ◌+◌, ◌-◌, ◌/◌, ◌<◌, ◌≤◌, false, List, [], length, map};
 ghost use Rattle.std.specs.Prelude.{slice_index_or, slice_set};
 ghost use Rattle.std.specs.Prelude.{Option, Some, None, IfOk, is_some};
-ghost use Rattle.law_model.specs.Common.{begin, full, Leg, governing, Scenario, steps_in};
+ghost use Rattle.law_model.specs.Common.{begin, full, Leg, governing, Scenario, source_at, steps_in};
 ghost use Rattle.law_model.specs.Common.{segments_of, Told, IsNetwork, scenario_by, is_known};
 ghost use Rattle.law_model.specs.declared.script_types.Config.{Config};
 ghost use Rattle.law_model.specs.declared.walk_events.Event.TheVariants.{Tick, Carry};
@@ -12,7 +12,7 @@ ghost use Rattle.terminal_source.specs.source_core.Terminal.{needed, SameKind};
 ghost use Rattle.member_path.specs.failure_window.OpenWindows.{CanClose, closed_at, last_end, opened_at};
 ghost use Rattle.terminal_sink.specs.marked_delineator.Marks.{first_place};
 ghost use Rattle.law_walk.specs.Common.{session_of, session_rows, is_client, totals_of, walk_plan};
-ghost use Rattle.law_walk.specs.Common.{popped_cells};
+ghost use Rattle.law_walk.specs.Common.{landed_scenario, popped_cells, table_in, told_before};
 ghost use Rattle.terminal_group.specs.ReturnInbox.{empty_inbox, with_come, cell_for, rest_for};
 ghost use Rattle.terminal_group.specs.Item.{kind_of};
 ghost use Rattle.terminal_group.specs.SourceByCounts.{missing_from};
@@ -101,18 +101,18 @@ impl WayCore {
         Ok(WayCore::from_opened(opened))
     }
 
-    /// How many ticks were made.
-    pub fn ticks(&self) -> u32
-        ensures { result ≡ self.now.source.core.ticks }
+    /// Its source side.
+    pub fn source(&self) -> &CountedSource
+        ensures { result.now ≡ self.now.source }
     {
-        self.source.ticks()
+        &self.source
     }
 
-    /// How many ticks there are.
-    pub fn total_ticks(&self) -> u32
-        ensures { result ≡ self.now.source.total }
+    /// Its sink.
+    pub fn sink(&self) -> &SinkCore
+        ensures { result.now ≡ self.now.sink }
     {
-        self.source.total_ticks()
+        &self.sink
     }
 
     /// How many lines there are.
@@ -123,19 +123,16 @@ impl WayCore {
         self.lines.len() as u8
     }
 
-    /// How many rows were taken.
-    pub fn taken(&self) -> u32
-        ensures { result ≡ self.now.sink.taken }
-    {
-        self.sink.taken()
-    }
-
-    /// The table of the lines.
+    /// The table of the lines after the last decision step and the commands that were accepted since.
     pub fn table(&self) -> &SourceTable
-        ensures table { result.now ≡ self.now.source.core.table }
+        ensures source { (leg : Leg) (backs : ℕ) → WayStands leg backs self.now →
+            result.now.source ≡ source_at (landed_scenario leg (counts_of self.now backs))
+            (told_before leg self.now.source.core.ticks) (steps_in self.now.source.core.ticks) }
+        ensures table { (leg : Leg) (backs : ℕ) → WayStands leg backs self.now →
+            result.now.source.table ≡ table_in leg self.now.source.core.ticks }
         ensures steps { result.now.steps ≡ steps_in self.now.source.core.ticks }
     {
-        self.source.table()
+        self.source.core().table()
     }
 
     /// How many frames wait, at most 256: those that were accepted and of which no octet is made.
@@ -144,7 +141,7 @@ impl WayCore {
         ensures waits { (leg : Leg) (backs : ℕ) → WayStands leg backs self.now →
             result ≡ waiting_in leg (counts_of self.now backs) }
     {
-        self.source.waiting()
+        self.source.core().queue().waiting()
     }
 
     /// The packets that were read with the last packet row that was taken, by line. A line has none where it
@@ -163,7 +160,7 @@ impl WayCore {
     {
         let landed = self.source.landed();
         Totals {
-            ticks: self.source.ticks(),
+            ticks: self.source.core().ticks(),
             taken: self.sink.taken(),
             frames: landed.accepted(true),
             commands: landed.accepted(false),
@@ -214,14 +211,11 @@ impl WayCore {
         ensures { (leg : Leg) (backs : ℕ) → WayStands leg backs self.now → result
             ≡ full leg.config.ticks self.now.source.core.ticks 0 (map line_counts self.now.lines) }
     {
-        first_full(&self.lines, self.source.total_ticks(), self.source.ticks())
-    }
-
-    /// The return cell that the next frame needs, where none has come.
-    pub fn missing(&self) -> Option<u32>
-        ensures { result ≡ missing_from self.now.source }
-    {
-        self.source.missing()
+        first_full(
+            &self.lines,
+            self.source.total_ticks(),
+            self.source.core().ticks(),
+        )
     }
 
     /// Takes a return cell that has come, or its loss where a return window holds it.
@@ -255,7 +249,7 @@ impl WayCore {
         ensures rest { self.new
             ≡ record self.old { source = self.new.source; sent = self.new.sent } }
     {
-        let ticks = self.source.ticks();
+        let ticks = self.source.core().ticks();
         let place = next_place(&mut self.sent, &self.lines, ticks);
         pass_on(&mut self.source, told);
         self.source.make(&mut self.sent[place])
@@ -271,7 +265,7 @@ impl WayCore {
         ensures windows { windows_in self.new.lines ≡ windows_in self.old.lines }
     {
         let m = usize::from(line);
-        match carry_stall(&self.lines[m], line, self.source.ticks()) {
+        match carry_stall(&self.lines[m], line, self.source.core().ticks()) {
             Some(cause) => Some(cause),
             None => {
                 carry_on(&mut self.lines[m], m, &mut self.sent);
@@ -323,7 +317,7 @@ impl WayCore {
         ensures rest { self.new ≡ record self.old { lines = self.new.lines } }
     {
         let m = usize::from(line);
-        let first = self.source.ticks();
+        let first = self.source.core().ticks();
         self.lines[m].cut(first);
     }
 
@@ -342,7 +336,7 @@ impl WayCore {
         ensures rest { self.new ≡ record self.old { lines = self.new.lines } }
     {
         let m = usize::from(line);
-        let end = self.source.ticks();
+        let end = self.source.core().ticks();
         self.lines[m].mend(end);
     }
 

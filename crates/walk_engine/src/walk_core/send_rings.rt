@@ -70,7 +70,7 @@ fn is_dry(own: &WalkLine, ticks: u32) -> bool
     ensures wet { result ≡ false →
         own.now.core.pushed < own.now.core.total → own.now.carried < ticks }
 {
-    !own.all_pushed() && own.carried() >= ticks
+    !own.core().all_pushed() && own.carried() >= ticks
 }
 
 /// Why a line carries nothing.
@@ -80,7 +80,7 @@ pub(super) fn carry_stall(own: &WalkLine, line: u8, ticks: u32) -> Option<StallC
         (path_on leg line) (line_counts own.now) }
     ensures can { result ≡ None → CanCarry own.now ticks }
 {
-    if own.ended() {
+    if own.core().ended() {
         Some(StallCause::Done)
     } else if is_dry(own, ticks) {
         Some(StallCause::Empty { line })
@@ -108,7 +108,7 @@ pub(super) fn carry_on(own: &mut WalkLine, m: usize, sent: &mut Vec<Vec<Box<Held
     ensures sent { IsCarriedAt (own.old.carried % 32) m
         (sent_frames sent.old) (sent_frames sent.new) }
 {
-    if own.all_pushed() {
+    if own.core().all_pushed() {
         own.flush();
     } else {
         let slot = own.carried() as usize % SENDS;

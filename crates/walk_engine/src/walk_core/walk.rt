@@ -1,28 +1,24 @@
 //! A walk of a script, event by event.
 
-ghost use Rattle.std.specs.Prelude.{◌≡◌, ℕ, ◌<◌, suc};
+ghost use Rattle.std.specs.Prelude.{◌≡◌, ℕ, suc};
 ghost use Rattle.std.specs.Prelude.{length, replicate, None, IfOk};
-ghost use Rattle.law_model.specs.declared.walk_events.Event.TheVariants.{Command, Accept, Tick, Carry, Back, Take};
-ghost use Rattle.law_model.specs.Common.{IsValid, begin, step, run, round, drain, bound, carries_from, steps_in};
-ghost use Rattle.law_model.specs.Common.{source_at, leg_of};
+ghost use Rattle.law_model.specs.declared.walk_events.Event.TheVariants.{Tick};
+ghost use Rattle.law_model.specs.Common.{IsValid, begin, run, round, drain, bound, leg_of};
 ghost use Rattle.law_progress.specs.Progress.{HasLine};
-ghost use Rattle.law_walk.specs.Common.{landed_scenario, told_before, refusals_of, totals_of, last_packet, table_in};
-ghost use Rattle.law_walk.specs.Common.{walk_plan, IsWalked};
+ghost use Rattle.law_walk.specs.Common.{totals_of, walk_plan, IsWalked};
 ghost use Rattle.walk_engine.specs.walk_core.WalkAfterEvent.{answer_by, counts_after, moved_of, GivesRows};
 ghost use Rattle.terminal_group.specs.Item.{bare_items};
 ghost use Rattle.terminal_group.specs.Landed.{none_landed};
 ghost use Rattle.walk_engine.specs.walk_core.Landing.{landing_of, early_cause};
 ghost use Rattle.walk_engine.specs.walk_core.LiveWalking.{LiveStands, walking_counts};
-ghost use Rattle.walk_engine.specs.walk_core.WayParts.{note_of, windows_in, AgreesAt, WayStands, counts_of};
+ghost use Rattle.walk_engine.specs.walk_core.WayParts.{windows_in, AgreesAt, HasLanded};
 
 use crate::walk_core::live_walk::LiveWalk;
-use crate::walk_core::one_way::WayCore;
-use crate::walk_core::step_answers::{Moved, StepNote};
+use crate::walk_core::step_answers::Moved;
 use law_model::{Event, FrameOut, FrameRoom, Refusal, Script, StallCause, Totals};
 use std::alloc::{AllocError, Global};
 use std::marker::Model;
-use terminal_group::{Landing, Refusals, lent_item};
-use terminal_source::lcas_source::SourceTable;
+use terminal_group::{Landing, lent_item};
 
 /// A walk of a script.
 pub struct Walk {
@@ -90,12 +86,9 @@ impl Walk {
             Event::Accept => self.land(true),
             Event::Command => self.land(false),
             Event::Tick => self.tick(),
-            Event::Carry(line) => {
-                prove!(line < self.script.config.lines);
-                self.carry(line)
-            }
-            Event::Back => self.back(),
-            Event::Take => self.take(out),
+            Event::Carry(line) => self.live.carry(line),
+            Event::Back => self.live.back(),
+            Event::Take => self.live.take(out),
         }
     }
 
@@ -111,7 +104,7 @@ impl Walk {
         self.land_all(true);
         self.land_all(false);
         let _ = self.tick();
-        self.finish_round(out);
+        self.live.finish_round(out);
     }
 
     /// Makes rounds until all rows are taken.
@@ -123,7 +116,7 @@ impl Walk {
         ensures gives { GivesRows F.stands_for out.old out.new (leg_of self.old.script)
             self.old.counts.rows self.old.script.config.ticks }
     {
-        while self.live.taken() < self.script.config.ticks {
+        while self.live.way().sink().taken() < self.script.config.ticks {
             self.round(out);
         }
     }
@@ -144,47 +137,19 @@ impl Walk {
         &self.script
     }
 
-    /// How many frames have landed, refused ones among them.
-    pub fn landed_frames(&self) -> u32
-        ensures { result ≡ self.now.counts.frames }
+    /// Which of its items have landed, and which of them were refused.
+    pub fn landing(&self) -> &Landing
+        ensures { HasLanded (leg_of self.now.script) self.now.counts result.now }
     {
-        self.landing.landed(true)
+        &self.landing
     }
 
-    /// The items that were refused, in the order of the script.
-    pub fn refusals(&self) -> Refusals<'_>
-        ensures { result ≡ refusals_of (leg_of self.now.script) self.now.counts }
+    /// The walk without its script. It stands for the script's leg.
+    pub fn live(&self) -> &LiveWalk
+        ensures stands { LiveStands (leg_of self.now.script) result.now }
+        ensures counts { walking_counts result.now ≡ self.now.counts }
     {
-        self.landing.refusals()
-    }
-
-    /// The last decision step, where one was made.
-    pub fn last_step(&self) -> Option<StepNote>
-        ensures { result ≡ note_of (leg_of self.now.script) (last_packet self.now.counts.ticks) }
-    {
-        self.live.last_step()
-    }
-
-    /// The table of the lines after the last decision step and the commands that were accepted since.
-    pub fn table(&self) -> &SourceTable
-        ensures source { result.now.source
-            ≡ source_at (landed_scenario (leg_of self.now.script) self.now.counts)
-            (told_before (leg_of self.now.script) self.now.counts.ticks)
-            (steps_in self.now.counts.ticks) }
-        ensures table { result.now.source.table
-            ≡ table_in (leg_of self.now.script) self.now.counts.ticks }
-        ensures steps { result.now.steps ≡ steps_in self.now.counts.ticks }
-    {
-        self.live.table()
-    }
-
-    /// Its direction: what waits in its rings, and what its lines and terminals keep, is what the session has there
-    /// after these counts.
-    pub fn way(&self) -> &WayCore
-        ensures stands { WayStands (leg_of self.now.script) self.now.counts.backs result.now }
-        ensures counts { counts_of result.now self.now.counts.backs ≡ self.now.counts }
-    {
-        self.live.way()
+        &self.live
     }
 
     /// A walk of a script before any event.
@@ -240,29 +205,6 @@ impl Walk {
         landed(why)
     }
 
-    /// Takes the next row, where the lines decide it.
-    fn take<F: FrameOut>(&mut self, out: &mut F) -> Moved
-        ensures script { self.new.script ≡ self.old.script }
-        ensures counts { self.new.counts
-            ≡ counts_after (leg_of self.old.script) self.old.counts Take }
-        ensures moved { result ≡ moved_of (leg_of self.old.script) self.old.counts Take }
-        ensures gives { GivesRows F.stands_for out.old out.new (leg_of self.old.script)
-            self.old.counts.rows self.new.counts.rows }
-    {
-        self.live.take(out)
-    }
-
-    /// Tries a carry of each line, a return packet and a row.
-    fn finish_round<F: FrameOut>(&mut self, out: &mut F)
-        ensures script { self.new.script ≡ self.old.script }
-        ensures counts { self.new.counts ≡ run (walk_plan (leg_of self.old.script)) self.old.counts
-            (carries_from 0 (walk_plan (leg_of self.old.script)).paths) }
-        ensures gives { GivesRows F.stands_for out.old out.new (leg_of self.old.script)
-            self.old.counts.rows self.new.counts.rows }
-    {
-        self.live.finish_round(out);
-    }
-
     /// Makes the next frame.
     fn tick(&mut self) -> Moved
         ensures script { self.new.script ≡ self.old.script }
@@ -289,27 +231,6 @@ impl Walk {
             Some(item) => Some(StallCause::Held { item }),
             None => None,
         }
-    }
-
-    /// Makes a carry of a line.
-    fn carry(&mut self, line: u8) -> Moved
-        requires { line < self.old.script.config.lines }
-        ensures script { self.new.script ≡ self.old.script }
-        ensures counts { self.new.counts
-            ≡ counts_after (leg_of self.old.script) self.old.counts (Carry line) }
-        ensures moved { result ≡ moved_of (leg_of self.old.script) self.old.counts (Carry line) }
-    {
-        self.live.carry(line)
-    }
-
-    /// Moves a return packet to the source.
-    fn back(&mut self) -> Moved
-        ensures script { self.new.script ≡ self.old.script }
-        ensures counts { self.new.counts
-            ≡ counts_after (leg_of self.old.script) self.old.counts Back }
-        ensures moved { result ≡ moved_of (leg_of self.old.script) self.old.counts Back }
-    {
-        self.live.back()
     }
 }
 

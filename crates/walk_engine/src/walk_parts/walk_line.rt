@@ -5,8 +5,7 @@ ghost use Rattle.std.specs.Prelude.{slice_set, IfOk, IsTrue, is_some};
 ghost use Rattle.law_model.specs.Common.{Cell, AreWindows, verdict, first_open, most_ticks};
 ghost use Rattle.member_path.specs.failure_window.OpenWindows.{CanClose, last_end};
 ghost use Rattle.member_path.specs.path_delay.CallsOnDelayedLine.{Calls, opened, and_push, and_flush};
-ghost use Rattle.member_path.specs.path_delay.CallsOnDelayedLine.{path_cells, IsEnded};
-ghost use Rattle.member_path.specs.path_delay.CallsOnDelayedLine.{and_cut, and_mend};
+ghost use Rattle.member_path.specs.path_delay.CallsOnDelayedLine.{path_cells, and_cut, and_mend};
 ghost use Rattle.member_rows.specs.realign_rows.Gather.{GatherStands as Gathers, line_count, IsOpenAt};
 ghost use Rattle.walk_engine.specs.walk_parts.Ringed.{Ringed, ring_of, Has, popped_cells, IsNext, IsPopped};
 ghost use Rattle.walk_engine.specs.walk_parts.Ringed.{popped_until};
@@ -102,19 +101,11 @@ impl WalkLine {
         self.carried
     }
 
-    /// Whether all containers were pushed.
-    pub(crate) fn all_pushed(&self) -> bool
-        ensures all { IsTrue result ↔ (self.now.core.pushed ≡ self.now.core.total) }
-        ensures within { self.now.core.pushed ≤ self.now.core.total }
+    /// The line without its ring.
+    pub(crate) fn core(&self) -> &LineCore
+        ensures { result.now ≡ self.now.core }
     {
-        self.core.all_pushed()
-    }
-
-    /// Whether the end was given.
-    pub(crate) fn ended(&self) -> bool
-        ensures { IsTrue result ↔ IsEnded self.now.core }
-    {
-        self.core.ended()
+        &self.core
     }
 
     /// Whether the receive ring holds as many cells as it may.

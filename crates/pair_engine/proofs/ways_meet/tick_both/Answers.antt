@@ -66,9 +66,11 @@ returns-clause-ticks c one other can =
     let there_note = c.next_note-there.result in
     let back_note = c.next_note-back.result in
     let noted = c.next_note-there.ensures
-    ∙ ap₂ (λ ticks (own : LiveWay). note_after ticks there_cell own.last) c.ticks-ticks.ensures there_told.rest in
+    ∙ ap₂ (λ ticks (own : LiveWay). note_after ticks there_cell own.last)
+    (rw (c.core.ensures, c.source.ensures) at c.ticks-ticks.ensures) there_told.rest in
     let back_noted = c.next_note-back.ensures
-    ∙ ap₂ (λ ticks (own : LiveWay). note_after ticks back_cell own.last) c.ticks-ticks-2.ensures back_told.rest in
+    ∙ ap₂ (λ ticks (own : LiveWay). note_after ticks back_cell own.last)
+    (rw (c.core-2.ensures, c.source-2.ensures) at c.ticks-ticks-2.ensures) back_told.rest in
     let first = has-ticked one other there back (there-free one other pair can)
     c.tell_next-of_there.new.self.core (ap (λ (own : LiveWay). own.core) there_told.rest) c.tell_next-of_back.result
     there_cell c.make-there_took.new.self there_note back_told.told m.makes m.cell m.inbox m.ticks m.rest noted in

@@ -8,7 +8,7 @@ use Rattle.command_parts.specs.Common.{lent, WritesAll, WritesPart, writes_both}
 use Rattle.law_pair.specs.Common.{counts_on}
 use Rattle.law_pair.specs.declared.pair_events.Way.TheVariants.{There, Back}
 use Rattle.pair_engine.specs.PairAfterEvent.{leg_on}
-use Rattle.pair_walk.specs.ReportsOfWays.{way_text}
+use Rattle.text_pairs.specs.ReportsOfWays.{way_text}
 use Rattle.pair_walk.proofs.PairReportRowsLaws.{appends-all, begun-few, ended-there, ended-back, same-name, way-lines}
 use Rattle.pair_walk.proofs.PairReportRowsLaws.{way-given_up, on-ok, at-ok, at-err, stops-both}
 use Rattle.pair_walk.proofs.pair_report.write_pair.Goals as goal

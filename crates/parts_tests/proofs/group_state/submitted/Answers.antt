@@ -6,5 +6,5 @@ use Rattle.parts_tests.proofs.group_state.submitted.Goals as goal
 pub submit-requires : goal.submit-requires
 submit-requires c =
     let group = c.args.group.now in
-    kept-item group.script.items group.state.source.landed group.items c.args.number _
+    kept-item group.script.items group.state.landing group.items c.args.number _
     (λ item at. c.lent_item.ensures ∙ c.lend-lent.ensures item at)

@@ -6,7 +6,7 @@ use Rattle.law_model.specs.Common.{one_more, BackCell}
 use Rattle.thread_rings.specs.EndsOfRing.{InEnd, in_passed, SameIn}
 use Rattle.thread_rings.proofs.SameRingEndsLaws.{in-then}
 use Rattle.terminal_group.specs.ReturnInbox.{is_lost_in, Inbox, come_by, with_come, HasCome}
-use Rattle.terminal_group.specs.Source.{Source}
+use Rattle.terminal_group.specs.SourceByCounts.{Counted}
 use Rattle.thread_group.specs.GroupRings.{HasMoved}
 use Rattle.terminal_group.proofs.InboxReturnCellLaws.{come-put}
 use Rattle.thread_group.proofs.GroupRingEndLookLaws.{less}
@@ -44,7 +44,7 @@ loop-back-preserved c =
     let is = c.is_full.ensures.1 (ap (λ (x : Inbox). x.room) c.inbox.ensures ∙ full
     ∙ sym (ap (λ (x : Inbox). length x.cells) c.inbox.ensures)) in
     let no = c.loop-back-test.true in absurd cc) in
-    let put : is ≡ with_come was c.pop.result = ap (λ (s : Source). s.inbox) c.put.ensures in
+    let put : is ≡ with_come was c.pop.result = ap (λ (s : Counted). s.inbox) c.put.ensures in
     let size : length is.cells ≡ length was.cells + 1 = ap (λ (x : Inbox). length x.cells) put
     ∙ length_push was.cells (come_by (is_lost_in was.lost was.come) c.pop.result) in
     let room : is.room ≡ was.room = ap (λ (x : Inbox). x.room) put in
@@ -56,7 +56,7 @@ loop-back-preserved c =
           (c.pop.ensures.passed ∙ ap (λ l. l ++ c.pop.result ∷ []) c.ready.ensures.passed);
       within = omega arith;
       few = omega arith;
-      rest = c.put.ensures ∙ ap (λ (s : Source). record s { inbox = with_come was c.pop.result }) i.invariant.rest
+      rest = c.put.ensures ∙ ap (λ (s : Counted). record s { inbox = with_come was c.pop.result }) i.invariant.rest
           ∙ ap (λ (x : Inbox). record c.args.source.now { inbox = x }) (sym put);
       quiet = c.pop.ensures.quiet ∙ c.ready.ensures.quiet c.if-not-ready.false ∙ i.invariant.quiet;
     }

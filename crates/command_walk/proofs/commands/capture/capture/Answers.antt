@@ -1,18 +1,11 @@
 -- A script is read, its walk is made, and its capture is written or a write fails.
 use Rattle.std.proofs.Common.{refl}
-use Rattle.law_model.specs.declared.script_types.Script.{Script}
-use Rattle.command_parts.specs.Common.{writes}
-use Rattle.command_walk.specs.commands.Capture.{capture_octets}
 use Rattle.command_parts.proofs.TaskEndAndStatusLaws.{script-written}
 use Rattle.command_walk.proofs.WalkCommandAndHeadlineLaws.{hands-script}
 use Rattle.command_walk.proofs.commands.capture.capture.Goals as goal
 
 pub returns-in-Err : goal.returns-in-Err
-returns-in-Err g c = record {
-  ran = tt;
-  stopped = c.in-Err.ensures.stopped (λ (script : Script). writes (capture_octets script));
-  nothing = refl;
-}
+returns-in-Err g c = record { ran = tt; stopped = c.in-Err.ensures.stopped _; nothing = refl }
 
 pub write_capture-written-requires-clause-valid : goal.write_capture-written-requires-clause-valid
 write_capture-written-requires-clause-valid g c = c.in-Ok.ensures.begun.valid
@@ -22,6 +15,6 @@ write_capture-written-requires-clause-begun g c = c.in-Ok.ensures.begun.counts
 
 pub returns : goal.returns
 returns g c =
-    script-written _ _ _ _ capture_octets _ c.in-Ok.ensures.script c.write_capture-written.ensures.ok
+    script-written _ _ _ _ _ _ c.in-Ok.ensures.script c.write_capture-written.ensures.ok
     c.write_capture-written.ensures.err (hands-script _ _ c.write_capture-written.new.walk
     c.in-Ok.ensures.script c.write_capture-written.ensures.script c.write_capture-written.ensures.counts)

@@ -7,14 +7,21 @@ use Rattle.command_walk.specs.commands.Capture.{taken_frames}
 use Rattle.command_walk.proofs.WalkCaptureAndFrameSumLaws.{begun-taken}
 use Rattle.command_walk.proofs.commands.capture.write_capture.Goals as goal
 
+pub drive-requires-clause-seen : goal.drive-requires-clause-seen
+drive-requires-clause-seen g c = (
+  _,
+  begun-taken g.K.ByteSink.written g.K.ByteSink.faults c.new-capture.result _ c.args.walk.now
+      c.new-capture.ensures.fresh c.requires.begun,
+)
+
 pub returns : goal.returns
 returns g c =
     let start : Start = start_at g.K.ByteSink.written g.K.ByteSink.faults c.args.out.now
     (name_of c.new-capture.result) in
-    let has = subst (HasCapture g.K.ByteSink.written g.K.ByteSink.faults c.capture_lines.new.out start)
-    (ap (λ s. taken_frames s c.capture_lines.new.walk.counts.rows) c.capture_lines.ensures.script
-    ∙ ap (λ (s : Counts). taken_frames c.args.walk.now.script s.rows) c.capture_lines.ensures.counts)
-    (c.capture_lines.ensures.taken start
+    let has = subst (HasCapture g.K.ByteSink.written g.K.ByteSink.faults c.drive.new.watcher start)
+    (ap (λ s. taken_frames s c.drive.new.walk.counts.rows) c.drive.ensures.script
+    ∙ ap (λ (s : Counts). taken_frames c.args.walk.now.script s.rows) c.in-Ok.ensures.counts)
+    (c.in-Ok.ensures.seen start
     (begun-taken g.K.ByteSink.written g.K.ByteSink.faults c.new-capture.result start c.args.walk.now
     c.new-capture.ensures.fresh c.requires.begun)) in
     let name = c.finish-back.ensures.name ∙ has.0 ∙ c.new-capture.ensures.name in

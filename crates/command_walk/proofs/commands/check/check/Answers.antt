@@ -1,24 +1,14 @@
 -- A script is read, its walk is made and seen, and what is unused, idle, early or refused is written or a write fails.
 use Rattle.std.proofs.Common.{refl}
-use Rattle.law_model.specs.declared.script_types.Script.{Script}
-use Rattle.law_model.specs.session.Leg.{leg_of}
-use Rattle.law_headline.specs.WalkTexts.{counts_in}
-use Rattle.fate_check.specs.CheckText.{check_text}
-use Rattle.command_parts.specs.Task.{writes}
 use Rattle.command_parts.proofs.TaskEndAndStatusLaws.{script-written}
 use Rattle.command_walk.proofs.WalkCommandAndHeadlineLaws.{hands-script}
 use Rattle.command_walk.proofs.commands.check.check.Goals as goal
 
 pub returns-in-Err : goal.returns-in-Err
-returns-in-Err g c = record {
-  ran = tt;
-  stopped = c.in-Err.ensures.stopped (λ (script : Script). writes (check_text (leg_of script) (counts_in script)));
-  nothing = refl;
-}
+returns-in-Err g c = record { ran = tt; stopped = c.in-Err.ensures.stopped _; nothing = refl }
 
 pub returns : goal.returns
 returns g c =
-    script-written _ _ _ _ (λ (script : Script). check_text (leg_of script) (counts_in script)) _
-    c.in-Ok.ensures.script (rw c.in-Ok.ensures.counts at c.write_check-written.ensures.ok)
+    script-written _ _ _ _ _ _ c.in-Ok.ensures.script (rw c.in-Ok.ensures.counts at c.write_check-written.ensures.ok)
     (rw c.in-Ok.ensures.counts at c.write_check-written.ensures.err)
     (hands-script _ _ c.in-Ok.watched.walk c.in-Ok.ensures.script refl c.in-Ok.ensures.counts)

@@ -1,20 +1,11 @@
 -- A script is read, its walk is made and seen, and the capture is written or a write fails.
 use Rattle.std.proofs.Common.{refl}
-use Rattle.law_model.specs.Common.{leg_of}
-use Rattle.law_model.specs.declared.script_types.Script.{Script}
-use Rattle.law_headline.specs.WalkTexts.{counts_in}
-use Rattle.fate_walks.specs.walk_gfp.CarriedInRows.{sent_capture}
-use Rattle.command_parts.specs.Task.{writes}
 use Rattle.command_parts.proofs.TaskEndAndStatusLaws.{script-written}
 use Rattle.command_walk.proofs.WalkCommandAndHeadlineLaws.{hands-script}
 use Rattle.command_walk.proofs.commands.gfp.gfp.Goals as goal
 
 pub returns-in-Err : goal.returns-in-Err
-returns-in-Err g c = record {
-  ran = tt;
-  stopped = c.in-Err.ensures.stopped (λ (script : Script). writes (sent_capture (leg_of script) (counts_in script)));
-  nothing = refl;
-}
+returns-in-Err g c = record { ran = tt; stopped = c.in-Err.ensures.stopped _; nothing = refl }
 
 pub returns-in-Err-new : goal.returns-in-Err-new
 returns-in-Err-new g c =
@@ -22,7 +13,6 @@ returns-in-Err-new g c =
 
 pub returns : goal.returns
 returns g c =
-    script-written _ _ _ _ (λ (script : Script). sent_capture (leg_of script) (counts_in script)) _
-    c.in-Ok.ensures.script (rw c.in-Ok.ensures.counts at c.write_gfp-written.ensures.ok)
+    script-written _ _ _ _ _ _ c.in-Ok.ensures.script (rw c.in-Ok.ensures.counts at c.write_gfp-written.ensures.ok)
     (rw c.in-Ok.ensures.counts at c.write_gfp-written.ensures.err)
     (hands-script _ _ c.in-Ok.watched.walk c.in-Ok.ensures.script refl c.in-Ok.ensures.counts)

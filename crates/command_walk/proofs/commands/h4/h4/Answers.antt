@@ -18,11 +18,7 @@ answers line script low =
     else refuses Limit (no_line_text line script.config.lines)) (lt-ltb line script.config.lines low)
 
 pub returns-in-Err : goal.returns-in-Err
-returns-in-Err g c = record {
-  ran = tt;
-  stopped = c.in-Err.ensures.stopped (h4_of c.args.line);
-  nothing = refl;
-}
+returns-in-Err g c = record { ran = tt; stopped = c.in-Err.ensures.stopped _; nothing = refl }
 
 pub returns : goal.returns
 returns g c =

@@ -1,6 +1,6 @@
 -- The last frame lies in a packet, of which the table says what it is.
 use Rattle.std.proofs.Common.{◌≡◌, ◌-◌, ◌*◌, ◌+◌, ◌%◌, ◌<◌, ◌≤◌, ℕ, slice_index, sym, ◌∙◌, ap, ap₂, subst, arith}
-use Rattle.law_model.specs.Common.{leg_of, Table, forward_packet, packet_nibbles, steps_in}
+use Rattle.law_model.specs.Common.{Counts, leg_of, Table, forward_packet, packet_nibbles, steps_in}
 use Rattle.law_model.specs.declared.session_totals.Totals.{Totals}
 use Rattle.law_walk.specs.Common.{table_in}
 use Rattle.command_walk.proofs.H4TextAndPacketsLaws.{last-later, nibble-small}
@@ -17,9 +17,13 @@ nibbles : (c : After-nibbles-nibbles) → c.nibbles-nibbles.result ≡ packet_ni
     (forward_packet (table_in (leg_of c.args.walk.now.script) c.args.walk.now.counts.ticks) c.args.line
     (steps_in c.args.walk.now.counts.ticks - 1))
 nibbles c =
+    let leg = leg_of c.args.walk.now.script in
+    let table = c.table.ensures.table leg _ (c.way.ensures.stands leg c.live.ensures.stands) in
     c.nibbles-nibbles.ensures
     ∙ ap packet_nibbles (c.packet.ensures
-    ∙ ap₂ (λ (t : Table) (n : ℕ). forward_packet t c.args.line (n - 1)) c.table.ensures.table c.table.ensures.steps)
+    ∙ ap₂ (λ (t : Table) (n : ℕ). forward_packet t c.args.line (n - 1)) table c.table.ensures.steps
+    ∙ ap (λ (s : Counts). forward_packet (table_in leg s.ticks) c.args.line (steps_in s.ticks - 1))
+    (c.way.ensures.counts ∙ c.live.ensures.counts))
 
 small : (c : After-nibbles-nibbles) →
     slice_index c.nibbles-nibbles.result ((c.totals-frame.result.ticks - 1 - 8) % 16) < 16

@@ -11,11 +11,11 @@ use Rattle.command_parts.specs.declared.stop_and_status.Stop.{Stop}
 use Rattle.command_parts.specs.declared.stop_and_status.Stop.TheVariants.{TooLong}
 use Rattle.command_parts.proofs.SourceTextAndStopLaws.{stops_read, stops_told}
 use Rattle.command_parts.proofs.TaskEndAndStatusLaws.{text-written}
-use Rattle.pair_walk.specs.declared.pair_script.script_pair.PairFault.{PairFault}
-use Rattle.pair_walk.specs.declared.pair_script.script_pair.ScriptPair.{ScriptPair}
-use Rattle.pair_walk.specs.pair_script.Inputs.{HasPair, pair_answer_of, pair_told}
+use Rattle.text_pairs.specs.declared.script_pair.PairFault.{PairFault}
+use Rattle.text_pairs.specs.declared.script_pair.ScriptPair.{ScriptPair}
+use Rattle.text_pairs.specs.Inputs.{HasPair, pair_answer_of, pair_told}
 use Rattle.pair_walk.specs.OneWay.{way_script_of}
-use Rattle.pair_walk.proofs.PairScriptReaderLaws.{stops_pair}
+use Rattle.text_pairs.proofs.PairScriptReaderLaws.{stops_pair}
 use Rattle.command_walk.specs.commands.OneWay.{one_way_answer, script_reply, way_reply}
 use Rattle.command_walk.proofs.commands.one_way.one_way.Goals as goal
 

@@ -3,9 +3,9 @@ use Rattle.std.proofs.Common.{◌≡◌, refl, sym, ap, ap₂, ◌∙◌}
 use Rattle.law_model.specs.declared.script_types.Script.{Script}
 use Rattle.law_pair.specs.Common.{pair_begin, pair_plan}
 use Rattle.command_parts.specs.Common.{Answer, writes_both, reads, Lent, Meets}
-use Rattle.pair_walk.specs.declared.pair_script.script_pair.ScriptPair.{ScriptPair}
-use Rattle.pair_walk.specs.pair_script.Inputs.{HasPair, pair_answer_of}
-use Rattle.pair_walk.specs.ReportsOfWays.{way_text, pair_text, pair_reply}
+use Rattle.text_pairs.specs.declared.script_pair.ScriptPair.{ScriptPair}
+use Rattle.text_pairs.specs.Inputs.{HasPair, pair_answer_of}
+use Rattle.text_pairs.specs.ReportsOfWays.{way_text, pair_text, pair_reply}
 use Rattle.command_walk.proofs.commands.pair.pair.Goals as goal
 
 -- the reports of two scripts beside each other

@@ -1,20 +1,11 @@
 -- A script is read, its walk is made and seen, what it was worth is found, and it is written or a write fails.
 use Rattle.std.proofs.Common.{refl}
-use Rattle.law_model.specs.Common.{leg_of}
-use Rattle.law_model.specs.declared.script_types.Script.{Script}
-use Rattle.law_headline.specs.WalkTexts.{counts_in}
-use Rattle.fate_service.specs.ServiceText.{service_text}
-use Rattle.command_parts.specs.Common.{writes}
 use Rattle.command_parts.proofs.TaskEndAndStatusLaws.{script-written}
 use Rattle.command_walk.proofs.WalkCommandAndHeadlineLaws.{hands-script}
 use Rattle.command_walk.proofs.commands.service.service.Goals as goal
 
 pub returns-in-Err : goal.returns-in-Err
-returns-in-Err g c = record {
-  ran = tt;
-  stopped = c.in-Err.ensures.stopped (λ (script : Script). writes (service_text (leg_of script) (counts_in script) c.args.interval));
-  nothing = refl;
-}
+returns-in-Err g c = record { ran = tt; stopped = c.in-Err.ensures.stopped _; nothing = refl }
 
 pub returns-in-Err-survey_walk : goal.returns-in-Err-survey_walk
 returns-in-Err-survey_walk g c =
@@ -22,7 +13,6 @@ returns-in-Err-survey_walk g c =
 
 pub returns : goal.returns
 returns g c =
-    script-written _ _ _ _ (λ (script : Script). service_text (leg_of script) (counts_in script)
-    c.args.interval) _ c.in-Ok.ensures.script (rw c.in-Ok.ensures.counts at
+    script-written _ _ _ _ _ _ c.in-Ok.ensures.script (rw c.in-Ok.ensures.counts at
     c.write_service-written.ensures.ok) (rw c.in-Ok.ensures.counts at c.write_service-written.ensures.err)
     (hands-script _ _ c.in-Ok.watched.walk c.in-Ok.ensures.script refl c.in-Ok.ensures.counts)

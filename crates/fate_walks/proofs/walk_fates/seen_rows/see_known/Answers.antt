@@ -12,8 +12,8 @@ returns-clause-packets c =
     let s = c.args.walk.now.counts in
     let known : 24 ≤ s.rows → c.knows.result ≡ is_known (scenario_by leg) (session_of leg) ((s.rows - 24) / 16) =
     subst (λ (s : Counts). 24 ≤ s.rows → c.knows.result
-    ≡ is_known (scenario_by leg) (session_of leg) ((s.rows - 24) / 16)) c.way.ensures.counts
-    (c.knows.ensures.known leg s.backs c.way.ensures.stands) in
+    ≡ is_known (scenario_by leg) (session_of leg) ((s.rows - 24) / 16)) (c.way.ensures.counts ∙ c.live.ensures.counts)
+    (c.knows.ensures.known leg _ (c.way.ensures.stands leg c.live.ensures.stands)) in
     let ends = (c.ends_packet.ensures.end).0 (search rules) in
     let here : (s.rows - 24) / 16 ≡ length c.args.packets.now.known =
     omega (arith, c.requires.last, c.requires.known, ends.0, ends.1) in

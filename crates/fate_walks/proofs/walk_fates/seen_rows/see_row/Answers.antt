@@ -54,8 +54,8 @@ row-requires-2 c =
     let few = few-rows leg c.args.walk.now.counts sound c.requires.walked in
     let size = rows-size leg c.args.row in
     let low : rows ≤ leg.config.ticks = omega (arith, few.0, few.1) in
-    let told = c.first_confirmed.ensures leg c.args.walk.now.counts.backs c.way.ensures.stands
-    ∙ ap (mark_after leg) c.way.ensures.counts in
+    let told = c.first_confirmed.ensures leg _ (c.way.ensures.stands leg c.live.ensures.stands)
+    ∙ ap (mark_after leg) (c.way.ensures.counts ∙ c.live.ensures.counts) in
     let is = c.place-end.ensures (scenario_of c.args.walk.now.script) (session_of leg)
     c.in_ok-see_known.ensures.packets.are in
     record {
@@ -83,8 +83,8 @@ returns-clause-ok c =
     let told : Tells (session_rows (leg_of script) (row + 1)) c.place-end.result c.first_confirmed.result =
     row-tells (leg_of script) c.args.walk.now.counts
     (row + 1) c.place-end.result c.first_confirmed.result c.requires.last ends
-    (c.first_confirmed.ensures (leg_of script) c.args.walk.now.counts.backs c.way.ensures.stands
-    ∙ ap (mark_after (leg_of script)) c.way.ensures.counts) in
+    (c.first_confirmed.ensures (leg_of script) _ (c.way.ensures.stands (leg_of script) c.live.ensures.stands)
+    ∙ ap (mark_after (leg_of script)) (c.way.ensures.counts ∙ c.live.ensures.counts)) in
     let whole = whole-cause (leg_of script) row c.row_cause-cause.result is
     ∙ none-is c.row_cause-cause.result c.is_none.result c.is_none.ensures in
     let stands =

@@ -1,6 +1,7 @@
 -- One packet more, and one row more.
 use Rattle.std.proofs.Common.{◌≡◌, ℕ, refl, sym, ◌∙◌, ap, subst, arith}
-use Rattle.law_model.specs.Common.{Leg, leg_of, steps_in, active}
+use Rattle.law_model.specs.Common.{Leg, Counts, leg_of, steps_in, active}
+use Rattle.law_walk.specs.Common.{table_in}
 use Rattle.law_model.specs.declared.session_totals.Totals.{Totals}
 use Rattle.std.proofs.lemmas.Result.{on_err_weaker}
 use Rattle.fate_walks.specs.declared.walk_fates.seen_rows.SeenRows.{SeenRows}
@@ -31,43 +32,46 @@ push-requires c =
 
 pub returns-then-totals-rows-clause-ok : goal.returns-then-totals-rows-clause-ok
 returns-then-totals-rows-clause-ok c =
-    let script = c.args.walk.now.script in
+    let leg = leg_of c.args.walk.now.script in
     let ticks = c.args.walk.now.counts.ticks in
     let on : steps_in ticks ≡ steps_in c.totals-totals.result.ticks =
     ap steps_in (sym (ap (λ (t : Totals). t.ticks) c.totals-totals.ensures)) in
     let all : c.args.rows ≡ c.args.walk.now.counts.rows = sym c.if-totals-rows.true
     ∙ ap (λ (t : Totals). t.taken) c.totals-totals.ensures in
-    let sees : Sees (leg_of script) ticks c.args.rows c.if-is_step.seen = elim c.if-is_step.branch [
+    let sees : Sees leg ticks c.args.rows c.if-is_step.seen = elim c.if-is_step.branch [
       | then-is_step+in_ok-push w ↦
-          sees-step (leg_of script) c.args.ticks ticks c.args.rows c.args.seen.now c.if-is_step.seen
+          sees-step leg c.args.ticks ticks c.args.rows c.args.seen.now c.if-is_step.seen
           w.push.new.self w.active.result.items c.requires.seen
-          (on ∙ w.if-is_step.ensures.yes) (w.active.ensures ∙ ap active w.table.ensures.table) w.in_ok-push.ensures.ok
-          w.seen-is
-      | else-is_step w ↦ sees-same (leg_of script) c.args.ticks ticks c.args.rows c.args.seen.now c.if-is_step.seen
+          (on ∙ w.if-is_step.ensures.yes)
+          (w.active.ensures ∙ ap active (w.table.ensures.table leg _ (w.way.ensures.stands leg w.live.ensures.stands)
+          ∙ ap (λ (s : Counts). table_in leg s.ticks) (w.way.ensures.counts ∙ w.live.ensures.counts)))
+          w.in_ok-push.ensures.ok w.seen-is
+      | else-is_step w ↦ sees-same leg c.args.ticks ticks c.args.rows c.args.seen.now c.if-is_step.seen
           c.requires.seen (on ∙ w.if-is_step.ensures.no) w.seen-is
     ] in
-    subst (λ n. Sees (leg_of script) ticks n c.if-is_step.seen) all sees
+    subst (λ n. Sees leg ticks n c.if-is_step.seen) all sees
 
 pub see_row-requires-clause-seen : goal.see_row-requires-clause-seen
 see_row-requires-clause-seen c =
-    let script = c.args.walk.now.script in
+    let leg = leg_of c.args.walk.now.script in
     let ticks = c.args.walk.now.counts.ticks in
     let on : steps_in ticks ≡ steps_in c.totals-totals.result.ticks =
     ap steps_in (sym (ap (λ (t : Totals). t.ticks) c.totals-totals.ensures)) in
     elim c.if-is_step.branch [
       | then-is_step+in_ok-push w ↦
-          sees-step (leg_of script) c.args.ticks ticks c.args.rows c.args.seen.now c.if-is_step.seen
+          sees-step leg c.args.ticks ticks c.args.rows c.args.seen.now c.if-is_step.seen
           w.push.new.self w.active.result.items c.requires.seen
-          (on ∙ w.if-is_step.ensures.yes) (w.active.ensures ∙ ap active w.table.ensures.table) w.in_ok-push.ensures.ok
-          w.seen-is
-      | else-is_step w ↦ sees-same (leg_of script) c.args.ticks ticks c.args.rows c.args.seen.now c.if-is_step.seen
+          (on ∙ w.if-is_step.ensures.yes)
+          (w.active.ensures ∙ ap active (w.table.ensures.table leg _ (w.way.ensures.stands leg w.live.ensures.stands)
+          ∙ ap (λ (s : Counts). table_in leg s.ticks) (w.way.ensures.counts ∙ w.live.ensures.counts)))
+          w.in_ok-push.ensures.ok w.seen-is
+      | else-is_step w ↦ sees-same leg c.args.ticks ticks c.args.rows c.args.seen.now c.if-is_step.seen
           c.requires.seen (on ∙ w.if-is_step.ensures.no) w.seen-is
     ]
 
 pub returns-clause-err : goal.returns-clause-err
 returns-clause-err c =
-    let script = c.args.walk.now.script in
-    let leg = leg_of script in
+    let leg = leg_of c.args.walk.now.script in
     let ticks = c.args.walk.now.counts.ticks in
     let on : steps_in ticks ≡ steps_in c.totals-totals.result.ticks =
     ap steps_in (sym (ap (λ (t : Totals). t.ticks) c.totals-totals.ensures)) in
@@ -79,7 +83,9 @@ returns-clause-err c =
         runs = ap (λ (seen : SeenRows). seen.runs) w.seen-is;
         sees = sees-step leg c.args.ticks ticks c.args.rows c.args.seen.now c.if-is_step.seen
             w.push.new.self w.active.result.items c.requires.seen
-            (on ∙ w.if-is_step.ensures.yes) (w.active.ensures ∙ ap active w.table.ensures.table)
+            (on ∙ w.if-is_step.ensures.yes)
+            (w.active.ensures ∙ ap active (w.table.ensures.table leg _ (w.way.ensures.stands leg w.live.ensures.stands)
+            ∙ ap (λ (s : Counts). table_in leg s.ticks) (w.way.ensures.counts ∙ w.live.ensures.counts)))
             w.in_ok-push.ensures.ok w.seen-is;
       }
       | else-is_step w ↦ record {

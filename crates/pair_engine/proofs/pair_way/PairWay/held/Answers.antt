@@ -26,8 +26,10 @@ held-is own other ticks found known at e =
 
 pub returns-in-Some : goal.returns-in-Some
 returns-in-Some c other known =
-    ap (option_map Held) (sym c.in-Some.is ∙ held-is c.args.self.now other _ _ known c.ticks.ensures c.held.ensures)
+    ap (option_map Held) (sym c.in-Some.is ∙ held-is c.args.self.now other _ _ known
+    (rw (c.core.ensures, c.source.ensures) at c.ticks.ensures) c.held.ensures)
 
 pub returns-in-None : goal.returns-in-None
 returns-in-None c other known =
-    ap (option_map Held) (sym c.in-None.is ∙ held-is c.args.self.now other _ _ known c.ticks.ensures c.held.ensures)
+    ap (option_map Held) (sym c.in-None.is ∙ held-is c.args.self.now other _ _ known
+    (rw (c.core.ensures, c.source.ensures) at c.ticks.ensures) c.held.ensures)

@@ -18,7 +18,7 @@ returns-in_default-clause-goes c other stands known =
 pub returns-then-ticks-next-clause-goes : goal.returns-then-ticks-next-clause-goes
 returns-then-ticks-next-clause-goes c other stands known =
     let early = c.if-ticks-next.true in
-    let at = c.ticks.ensures in
+    let at = rw (c.core.ensures, c.source.ensures) at c.ticks.ensures in
     goes-early c.args.self.now other stands known c.next_item.result c.next_item.ensures.first
     c.in-Some.next (sym c.in-Some.is) (omega (arith, early, at))
 
@@ -37,7 +37,7 @@ land-requires-clause-reason c =
     let backs = packets_in own.live.core.sink.taken in
     let next = c.in-Some.next in
     let low = c.if-ticks-next.false in
-    let at = c.ticks.ensures in
+    let at = rw (c.core.ensures, c.source.ensures) at c.ticks.ensures in
     let dues = c.in-Some.ensures.due in
     let lends : (item : Item) → slice_get own.script.items next.number ≡ Some item →
     kind_of c.lent_item.result ≡ item.kind = λ item at. c.lent_item.ensures ∙ c.lend-lent.ensures item at in
@@ -53,7 +53,7 @@ returns-clause-goes c other stands known =
     let backs = packets_in own.live.core.sink.taken in
     let next = c.in-Some.next in
     let low = c.if-ticks-next.false in
-    let at = c.ticks.ensures in
+    let at = rw (c.core.ensures, c.source.ensures) at c.ticks.ensures in
     let dues = c.in-Some.ensures.due in
     let late : next.due ≤ own.live.core.source.core.ticks = omega (arith, low, at) in
     let lends : (item : Item) → slice_get own.script.items next.number ≡ Some item →

@@ -6,7 +6,7 @@ use Rattle.thread_group.proofs.bound_group.BoundGroup.submit.Goals as goal
 pub submit-requires : goal.submit-requires
 submit-requires g c =
     let state = c.args.self.now.state in
-    kept-item _ state.source.landed c.args.self.now.bound.of_script.items c.args.number _ c.requires
+    kept-item _ state.landing c.args.self.now.bound.of_script.items c.args.number _ c.requires
 
 pub invariant_of-self : goal.invariant_of-self
 invariant_of-self g c = record {

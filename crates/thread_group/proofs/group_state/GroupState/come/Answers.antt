@@ -3,8 +3,7 @@ use Rattle.std.proofs.Common.{length, inl, inr, refl, sym, ◌∙◌, ap, subst}
 use Rattle.terminal_source.specs.source_core.Terminal.{Terminal}
 use Rattle.thread_rings.specs.EndsOfRing.{in_passed}
 use Rattle.terminal_group.specs.ReturnInbox.{told_taken}
-use Rattle.terminal_group.specs.Landed.{Landed}
-use Rattle.terminal_group.specs.Source.{Source}
+use Rattle.terminal_group.specs.SourceByCounts.{Counted}
 use Rattle.thread_group.specs.GroupParts.{parts, Keeps}
 use Rattle.thread_group.proofs.GroupPartsAfterStepLaws.{keeps-moved, told-moved, full-come, few-come}
 use Rattle.thread_group.proofs.group_state.GroupState.come.Goals as goal
@@ -21,7 +20,8 @@ invariant_of-self c =
     let inbox = c.take_cells.new.source.inbox in
     let back = c.take_cells.new.back in
     record {
-      keeps = subst (λ (s : Source). Keeps (parts s.core s.total s.landed g.journal s.inbox g.tx.items back)
+      lines = g.lines ∙ sym (ap (λ (s : Counted). s.core.lines) c.take_cells.ensures.rest);
+      keeps = subst (λ (s : Counted). Keeps (parts s.core s.total g.landing g.journal s.inbox g.tx.items back)
           (length g.frame.items)) (sym c.take_cells.ensures.rest)
           (keeps-moved _ _ inbox back g.keeps c.take_cells.ensures.moved);
     }
@@ -29,26 +29,18 @@ invariant_of-self c =
 pub returns : goal.returns
 returns c =
     let m = c.take_cells.ensures.moved in
-    let core = ap (λ (s : Source). s.core) c.take_cells.ensures.rest in
-    let landed = ap (λ (s : Source). s.landed) c.take_cells.ensures.rest in
+    let core = ap (λ (s : Counted). s.core) c.take_cells.ensures.rest in
     record {
       script = record {
         lines = ap (λ (t : Terminal). t.lines) core;
         lag = ap (λ (t : Terminal). t.lag) core;
         size = ap (λ (t : Terminal). t.size) core;
         statuses = ap (λ (t : Terminal). t.statuses) core;
-        total = ap (λ (s : Source). s.total) c.take_cells.ensures.rest;
+        total = ap (λ (s : Counted). s.total) c.take_cells.ensures.rest;
         lost = m.lost;
-        items = ap (λ (l : Landed). l.items) landed;
+        items = refl;
       };
-      landed = record {
-        frames = ap (λ (l : Landed). l.frames) landed;
-        commands = ap (λ (l : Landed). l.commands) landed;
-        journal = refl;
-        slots = refl;
-        bytes = refl;
-        refusals = ap (λ (l : Landed). l.refusals) landed;
-      };
+      landed = record { frames = refl; commands = refl; journal = refl; slots = refl; bytes = refl; refusals = refl };
       source = core;
       tx = refl;
       returns = m.same;

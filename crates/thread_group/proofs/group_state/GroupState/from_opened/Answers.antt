@@ -13,7 +13,8 @@ invariant_of-result c =
     let m = c.requires.opened.source in
     let config = c.args.script.now.config in
     let network = c.requires.script.sound.network in
-    let at : Parts = parts source.core source.total source.landed opened.journal source.inbox c.args.tx.items
+    let landing = c.requires.opened.landing in
+    let at : Parts = parts source.core source.total opened.landing opened.journal source.inbox c.args.tx.items
     c.args.back in
     let most_ticks = network.ticks.1 in
     let most_lines = network.lines.1 in
@@ -26,10 +27,11 @@ invariant_of-result c =
     m.inbox ∙ ap (λ l. empty_inbox l config.lag) (sym (ap (λ (i : Inbox). i.lost) m.inbox))
     ∙ ap (empty_inbox source.inbox.lost) (sym m.core.lag) in
     record {
+      lines = ap (λ (l : Landed). l.lines) landing ∙ sym m.core.lines;
       keeps = keeps-begin at (length opened.frame.items) (omega arith) m.core.ticks (omega arith) (omega arith)
           (omega arith) (c.requires.rings ∙ sym m.core.lines) c.requires.sends c.requires.returns
-          (ap (λ (l : Landed). l.frames) m.landed) (ap (λ (l : Landed). l.commands) m.landed)
-          (ap (λ (l : Landed). l.refusals) m.landed)
+          (ap (λ (l : Landed). l.frames) landing) (ap (λ (l : Landed). l.commands) landing)
+          (ap (λ (l : Landed). l.refusals) landing)
           c.requires.opened.journal inbox
           (λ scenario fresh. m.core.made scenario
           (record {
@@ -46,6 +48,7 @@ invariant_of-result c =
 pub returns-clause-begun : goal.returns-clause-begun
 returns-clause-begun c =
     let m = c.requires.opened.source in
+    let landing = c.requires.opened.landing in
     record {
       of_script = record {
         lines = m.core.lines;
@@ -55,12 +58,12 @@ returns-clause-begun c =
         total = m.total;
         lost =
             ap (λ (i : Inbox). i.lost) m.inbox;
-        items = ap (λ (l : Landed). l.items) m.landed;
+        items = ap (λ (l : Landed). l.items) landing;
       };
       ticks = m.core.ticks;
-      landed = (ap (λ (l : Landed). l.frames) m.landed, ap (λ (l : Landed). l.commands) m.landed);
+      landed = (ap (λ (l : Landed). l.frames) landing, ap (λ (l : Landed). l.commands) landing);
       journal = c.requires.opened.journal;
-      refusals = ap (λ (l : Landed). l.refusals) m.landed;
+      refusals = ap (λ (l : Landed). l.refusals) landing;
       inbox = ap (λ (i : Inbox). i.cells) m.inbox;
       made = λ scenario fresh. m.core.made scenario
           (record {

@@ -11,6 +11,7 @@ first_full-requires c =
 
 pub invariant_of-self : goal.invariant_of-self
 invariant_of-self c = record {
+  lines = c.args.self.now.lines;
   keeps =
       keeps-looked _ _ c.first_full.new.tx.items c.args.self.now.keeps c.first_full.ensures.looked;
 }

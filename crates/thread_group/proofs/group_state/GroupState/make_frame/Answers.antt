@@ -1,15 +1,11 @@
 -- A frame was made, and pushed.
-use Rattle.std.proofs.Common.{◌∙◌, ℕ, List, ap, sym, refl, subst, arith}
+use Rattle.std.proofs.Common.{◌∙◌, length, sym, refl, subst, arith}
 use Rattle.std.specs.Global.{Box}
 use Rattle.std.proofs.lemmas.List.{length-map}
-use Rattle.law_model.specs.Common.{Container, BackCell}
+use Rattle.law_model.specs.Common.{Container}
 use Rattle.member_cells.specs.HeldPlaces.{held}
-use Rattle.thread_rings.specs.EndsOfRing.{OutEnd, InEnd}
 use Rattle.terminal_source.specs.source_core.GivenScenario.{SourceStands as HasMade}
-use Rattle.terminal_group.specs.Landed.{Landed}
-use Rattle.terminal_group.specs.Source.{Source, SameScript}
-use Rattle.terminal_group.proofs.InboxReturnCellLaws.{cell-there, early-none}
-use Rattle.thread_group.specs.Journal.{Journal}
+use Rattle.terminal_group.proofs.InboxReturnCellLaws.{cell-there}
 use Rattle.thread_group.specs.GroupParts.{parts, Keeps}
 use Rattle.thread_group.proofs.GroupPartsAfterStepLaws.{made-by, keeps-made, pushed-made, own-pushed, same-ends}
 use Rattle.thread_group.proofs.GroupPartsAfterStepLaws.{told-made}
@@ -17,6 +13,9 @@ use Rattle.thread_group.proofs.group_state.GroupState.make_frame.Goals as goal
 
 pub make-taken-requires-clause-places : goal.make-taken-requires-clause-places
 make-taken-requires-clause-places c = c.args.self.now.keeps.places
+
+pub make-taken-requires-clause-left : goal.make-taken-requires-clause-left
+make-taken-requires-clause-left c = c.requires.free.left
 
 pub push_frame-requires-clause-places : goal.push_frame-requires-clause-places
 push_frame-requires-clause-places c =
@@ -26,28 +25,22 @@ push_frame-requires-clause-places c =
     omega arith
 
 pub push_frame-requires-clause-free : goal.push_frame-requires-clause-free
-push_frame-requires-clause-free c = c.requires.free
-
--- what has landed is as it was
-rested : (was now : Source) (journal : Journal) (tx : List (OutEnd Container)) (back : InEnd BackCell) (size : ℕ) →
-    SameScript was now →
-    Keeps (parts now.core was.total was.landed journal now.inbox tx back) size →
-    Keeps (parts now.core now.total now.landed journal now.inbox tx back) size
-rested was now journal tx back size same keeps =
-    subst (λ n. Keeps (parts now.core n now.landed journal now.inbox tx back) size) (sym same.total)
-    (subst (λ (l : Landed). Keeps (parts now.core was.total l journal now.inbox tx back) size) (sym same.landed) keeps)
+push_frame-requires-clause-free c = c.requires.slots
 
 pub invariant_of-self : goal.invariant_of-self
 invariant_of-self c =
     let g = c.args.self.now in
     let e = c.make-taken.ensures in
-    let (left, none) = early-none g.source c.requires.early in
+    let free = c.requires.free in
+    let source = c.make-taken.new.self in
     let made = made-by _ _ _ _ _ c.make-taken.result _ _ g.keeps refl (cell-there _ _ c.requires.cell) e.cell
     e.inbox e.made e.frame e.ticks e.kind c.push_frame.ensures.pushed in
-    let kept = keeps-made _ _ _ _ _ _ _ g.keeps made left none in
+    let kept = keeps-made _ _ _ _ _ _ _ g.keeps made free.left free.held in
     record {
+      lines = g.lines ∙ sym e.kind.lines;
       keeps = subst (Keeps _) (sym (c.push_frame.ensures.places ∙ e.places))
-          (rested g.source c.make-taken.new.self g.journal c.push_frame.new.tx.items g.back _ e.rest kept);
+          (subst (λ n. Keeps (parts source.core n g.landing g.journal source.inbox c.push_frame.new.tx.items g.back)
+          (length g.frame.items)) (sym e.rest.total) kept);
     }
 
 pub returns : goal.returns
@@ -70,16 +63,9 @@ returns c =
         total = e.rest.total;
         lost =
             made.lost;
-        items = ap (λ (l : Landed). l.items) e.rest.landed;
+        items = refl;
       };
-      landed = record {
-        frames = ap (λ (l : Landed). l.frames) e.rest.landed;
-        commands = ap (λ (l : Landed). l.commands) e.rest.landed;
-        journal = refl;
-        slots = refl;
-        bytes = refl;
-        refusals = ap (λ (l : Landed). l.refusals) e.rest.landed;
-      };
+      landed = record { frames = refl; commands = refl; journal = refl; slots = refl; bytes = refl; refusals = refl };
       ticks = e.ticks;
       sends = same-ends (held c.make-taken.new.frame.items) _ _ (omega (arith, long)) c.push_frame.ensures.pushed;
       back = refl;

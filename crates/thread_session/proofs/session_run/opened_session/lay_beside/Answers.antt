@@ -15,6 +15,7 @@ invariant_of-group c =
     let laid = rings-laid _ _ _ _ _ _ _ c.lay_sends.ensures c.lay_receives.ensures c.requires.count.0
     c.requires.count.1 in
     record {
+      lines = c.args.group.lines;
       keeps = keeps-laid _ _ _ c.beside.new.self c.args.group.keeps laid.still c.beside.ensures.popped;
     }
 
@@ -24,7 +25,7 @@ returns c =
     c.requires.count.1 in
     record {
       landed = λ script tx back is. bound-laid
-          (leg_of script) c.args.group c.lay_sends.new.tx c.beside.new.self _ laid.still
+          (leg_of script) c.args.group c.lay_sends.new.tx c.beside.new.self _ _ laid.still
           c.beside.ensures.same_in c.beside.ensures.popped tx back is;
       ticks = refl;
       tx_count = c.lay_sends.ensures.first_count;

@@ -17,7 +17,7 @@ use Rattle.walk_engine.proofs.walk_core.send_rings.carry_on.Goals as goal
 
 pub flush-requires : goal.flush-requires
 flush-requires c = record {
-  pushed = c.all_pushed.ensures.all.0 (search (rules, c.if-all_pushed.true));
+  pushed = rw c.core.ensures at c.all_pushed.ensures.all.0 (search (rules, c.if-all_pushed.true));
   runs = c.requires.runs;
   room = c.requires.room;
 }
@@ -37,8 +37,8 @@ index_mut-requires-else-all_pushed c =
 
 pub push-requires : goal.push-requires
 push-requires c = record {
-  left = below c.args.own.now.core.pushed c.args.own.now.core.total c.all_pushed.ensures.within
-      (search (rules, c.if-all_pushed.ensures));
+  left = below c.args.own.now.core.pushed c.args.own.now.core.total
+      (rw c.core.ensures at c.all_pushed.ensures.within) (search (rules, rw c.core.ensures at c.if-all_pushed.ensures));
   room = c.requires.room;
 }
 
@@ -51,7 +51,8 @@ returns-then-all_pushed-clause-popped c = c.flush.ensures.popped
 pub returns-then-all_pushed-clause-has : goal.returns-then-all_pushed-clause-has
 returns-then-all_pushed-clause-has c leg has sent known =
     let flushed = c.flush.ensures.has (calls_of leg c.args.m c.args.own.now) has.has in
-    let all = all-carried leg c.args.m c.args.own.now has (search (rules, c.if-all_pushed.ensures)) in
+    let all = all-carried leg c.args.m c.args.own.now has
+    (search (rules, rw c.core.ensures at c.if-all_pushed.ensures)) in
     record {
       has = subst (λ calls. Has c.flush.new.self calls)
           (ap (λ calls. with_windows calls c.args.own.now.core.windows)
@@ -72,8 +73,9 @@ returns-else-all_pushed c =
     let row : Vec (Box Container) = c.index_mut.result.now in
     record {
       has = λ leg has sent known.
-          let some : c.args.own.now.core.pushed ≡ c.args.own.now.core.total → ⊥ = search (rules, c.if-all_pushed.ensures) in
-          let within = c.all_pushed.ensures.within in
+          let some : c.args.own.now.core.pushed ≡ c.args.own.now.core.total → ⊥ =
+          search (rules, rw c.core.ensures at c.if-all_pushed.ensures) in
+          let within = rw c.core.ensures at c.all_pushed.ensures.within in
           let left = not-carried leg c.args.m c.args.own.now has
           (below c.args.own.now.core.pushed c.args.own.now.core.total within some) in
           let frames = c.args.sent.now.items in

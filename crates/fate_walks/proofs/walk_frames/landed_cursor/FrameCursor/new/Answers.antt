@@ -14,9 +14,9 @@ returns-clause-at c =
       walked = c.requires.walked;
       commands = commands;
       within = omega arith;
-      left = omega (arith, c.landed_frames.ensures);
+      left = omega (arith, c.landed.ensures, c.landing-2.ensures.frames);
       refusals = next-and-rest c.refusals-refusals.result c.next.new.self c.next.result c.next.ensures.some
-          c.next.ensures.none c.next.ensures.ended ∙ c.refusals-refusals.ensures
+          c.next.ensures.none c.next.ensures.ended ∙ c.refusals-refusals.ensures ∙ c.landing.ensures.refusals
           ∙ ap (λ frames. refusals_among (leg_of script) (landed_from frames commands 0 script.items))
-          (sym c.landed_frames.ensures);
+          (sym (c.landed.ensures ∙ c.landing-2.ensures.frames));
     }

@@ -36,7 +36,8 @@ returns-clause-makes c leg stands none agrees =
     (subst (AgreesNow leg) (sym c.self.view_is) agrees)) in
     let noted = c.next_note-self-inside.ensures
     ∙ ap (λ n. if n % 16 == 8 then Some
-    (record { packet = n / 16; back = c.make-back.result }) else f.last) c.ticks-ticks.ensures in
+    (record { packet = n / 16; back = c.make-back.result }) else f.last)
+    (rw (c.core.ensures, c.source.ensures) at c.ticks-ticks.ensures) in
     live-from leg _ _ _ _ _ c.self.view_is (record {
       stands = tick-live leg f.way f.ring f.last is e c.make-back.result m.cell c.make-back.new.self makes.stands
           m.ticks m.inbox m.rest c.next_note-self-inside.result noted;

@@ -38,7 +38,7 @@ returns-in-Some-missing-clause-cause c leg stands none =
     subst (λ (w : Walking). Some (BackMissing c.in-Some-missing.packet)
     ≡ (step (walk_plan leg) (walking_counts w) Tick).cause) c.self.view_is
     (missing-stalls leg f.way f.ring f.last is (ticks-left leg come f.way is.stands low) free slots
-    c.in-Some-missing.packet (sym c.missing.ensures ∙ c.in-Some-missing.is))
+    c.in-Some-missing.packet (sym (rw c.source.ensures at c.missing.ensures) ∙ c.in-Some-missing.is))
 
 pub returns-in-None-clause-cause : goal.returns-in-None-clause-cause
 returns-in-None-clause-cause c leg stands none =
@@ -51,8 +51,9 @@ returns-in-None-clause-cause c leg stands none =
     let slots = sym (c.first_full.ensures leg come is.stands) ∙ c.in_default.is in
     subst (λ (w : Walking). None ≡ (step (walk_plan leg) (walking_counts w) Tick).cause) c.self.view_is
     (none-missing leg f.way f.ring f.last is (ticks-left leg come f.way is.stands low) free slots
-    (sym c.missing.ensures ∙ c.in-None.is))
+    (sym (rw c.source.ensures at c.missing.ensures) ∙ c.in-None.is))
 
 pub returns-in-None-clause-cell : goal.returns-in-None-clause-cell
 returns-in-None-clause-cell c none =
-    ap (λ (w : Walking). missing_from w.way.source) (sym c.self.view_is) ∙ sym c.missing.ensures ∙ c.in-None.is
+    ap (λ (w : Walking). missing_from w.way.source) (sym c.self.view_is)
+    ∙ sym (rw c.source.ensures at c.missing.ensures) ∙ c.in-None.is

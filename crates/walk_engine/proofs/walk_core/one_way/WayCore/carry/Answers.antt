@@ -27,8 +27,8 @@ returns-in-Some-clause-windows c = refl
 pub returns-in-Some-clause-makes : goal.returns-in-Some-clause-makes
 returns-in-Some-clause-makes c leg backs stands =
     line-stays leg backs _ _ c.self.view_is stands c.args.line c.from-m.result c.from-m.ensures c.requires.line
-    c.index.result.now c.index.ensures c.ticks.result c.ticks.ensures c.carry_stall.result c.carry_stall.ensures.cause
-    c.in-Some.cause c.in-Some.is
+    c.index.result.now c.index.ensures c.ticks.result (rw c.core.ensures at c.ticks.ensures) c.carry_stall.result
+    c.carry_stall.ensures.cause c.in-Some.cause c.in-Some.is
 
 pub carry_on-requires : goal.carry_on-requires
 carry_on-requires c =
@@ -36,8 +36,9 @@ carry_on-requires c =
     let (is, low, there) = line-read leg backs _ _ c.self.view_is stands c.args.line c.from-m.result c.from-m.ensures
     c.requires.line c.index.result.now c.index.ensures in
     let free = line-free leg backs _ _ c.self.view_is stands c.args.line c.from-m.result c.from-m.ensures c.requires.line
-    c.index.result.now c.index.ensures c.ticks.result c.ticks.ensures c.carry_stall.result c.carry_stall.ensures.cause
-    c.in-None.is (c.carry_stall.ensures.can c.in-None.is) c.index_mut.result.now c.index_mut.ensures.value in
+    c.index.result.now c.index.ensures c.ticks.result (rw c.core.ensures at c.ticks.ensures) c.carry_stall.result
+    c.carry_stall.ensures.cause c.in-None.is (c.carry_stall.ensures.can c.in-None.is) c.index_mut.result.now
+    c.index_mut.ensures.value in
     let sent = c.self.inside.sent.items in
     let at = c.from-m.ensures in
     record {
@@ -54,8 +55,9 @@ returns-in-None c =
     let on = c.carry_on.ensures in
     let carried = λ (leg : Leg) (backs : ℕ) (stands : WayStands leg backs c.args.self.now).
     line-carried leg backs _ _ c.self.view_is stands c.args.line c.from-m.result c.from-m.ensures c.requires.line
-    c.index.result.now c.index.ensures c.ticks.result c.ticks.ensures c.carry_stall.result c.carry_stall.ensures.cause
-    c.in-None.is (c.carry_stall.ensures.can c.in-None.is) c.index_mut.result.now c.index_mut.ensures.value
+    c.index.result.now c.index.ensures c.ticks.result (rw c.core.ensures at c.ticks.ensures) c.carry_stall.result
+    c.carry_stall.ensures.cause c.in-None.is (c.carry_stall.ensures.can c.in-None.is) c.index_mut.result.now
+    c.index_mut.ensures.value
     c.self.inside.sent.items refl c.carry_on.new.own _
     (record { has = on.has; windows = on.windows; carried = on.carried; popped = on.popped; sent = on.sent }) in
     let (leg, backs, stands) = c.requires.stands in

@@ -14,7 +14,7 @@ cut-requires c =
     let (leg, backs, stands) = c.requires.stands in
     let was = line-was leg backs _ _ c.self.view_is stands c.args.line c.from-m.result c.from-m.ensures c.requires.line
     c.index_mut.result.now c.index_mut.ensures.value in
-    let ticks = c.ticks-first.ensures ∙ ap (λ (p : Parts). p.source.core.ticks) c.self.view_is in
+    let ticks = (rw c.core.ensures at c.ticks-first.ensures) ∙ ap (λ (p : Parts). p.source.core.ticks) c.self.view_is in
     let after = subst (λ (w : List Window). last_end w ≤ c.args.self.now.source.core.ticks) was.windows c.requires.after in
     let left = c.requires.left in
     let total = was.total in
@@ -32,7 +32,8 @@ returns c =
     let first = c.ticks-first.result in
     let damaged = λ (leg : Leg) (backs : ℕ) (stands : WayStands leg backs c.args.self.now).
     line-damaged leg backs _ _ c.self.view_is stands c.args.line c.from-m.result c.from-m.ensures c.requires.line
-    line c.index_mut.ensures.value opened_at c.cut.new.self first c.ticks-first.ensures
+    line c.index_mut.ensures.value opened_at c.cut.new.self first
+    (rw c.core.ensures at c.ticks-first.ensures)
     (c.cut.ensures.has (calls_of leg c.args.line line)) (opened-before line.core.windows first leg.config.ticks)
     c.cut.ensures.ring c.cut.ensures.carried c.cut.ensures.popped in
     let (leg, backs, stands) = c.requires.stands in

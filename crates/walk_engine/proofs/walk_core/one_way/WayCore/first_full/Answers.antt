@@ -19,7 +19,7 @@ first_full-requires-clause-made c k d low =
     let is = subst (WayStands leg backs) (sym c.self.view_is) stands in
     let made = lines-made leg backs _ is c.deref.result.now c.deref.ensures.value k d low in
     let total = c.total_ticks.ensures ∙ is.total in
-    let ticks = c.ticks.ensures in
+    let ticks = rw c.core.ensures at c.ticks.ensures in
     omega (arith, made, total, ticks)
 
 pub returns : goal.returns
@@ -27,7 +27,8 @@ returns c leg backs stands =
     let is = subst (WayStands leg backs) (sym c.self.view_is) stands in
     c.first_full.ensures
     ∙ ap (λ n. full n c.ticks.result 0 (map line_counts c.deref.result.now)) (c.total_ticks.ensures ∙ is.total)
-    ∙ ap (λ n. full leg.config.ticks n 0 (map line_counts c.deref.result.now)) c.ticks.ensures
+    ∙ ap (λ n. full leg.config.ticks n 0 (map line_counts c.deref.result.now))
+    (rw c.core.ensures at c.ticks.ensures)
     ∙ ap (λ lines. full leg.config.ticks c.self.inside.source.core.ticks 0 (map line_counts lines))
     c.deref.ensures.value
     ∙ ap (λ (p : Parts). full leg.config.ticks p.source.core.ticks 0 (map line_counts p.lines)) c.self.view_is

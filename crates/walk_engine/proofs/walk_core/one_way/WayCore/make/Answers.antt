@@ -31,7 +31,7 @@ make-requires c =
           let size = ap length c.deref.ensures.value ∙ is.lines.size in
           let sent =
           sent-read leg f.source.core.ticks c.ticks-ticks.result f.lines.items c.deref.result.now _ _
-          c.ticks-ticks.ensures c.deref.ensures.value (c.next_place-place.ensures.has leg size) is.sent in
+          (rw c.core.ensures at c.ticks-ticks.ensures) c.deref.ensures.value (c.next_place-place.ensures.has leg size) is.sent in
           let places = c.next_place-place.ensures.places in
           let at = c.next_place-place.ensures.place in
           let there = at-index c.next_place-place.new.sent.items c.next_place-place.result c.index_mut.result.now
@@ -56,7 +56,7 @@ returns c =
           let size = ap length c.deref.ensures.value ∙ is.lines.size in
           let sent =
           sent-read leg f.source.core.ticks c.ticks-ticks.result f.lines.items c.deref.result.now _ _
-          c.ticks-ticks.ensures c.deref.ensures.value (c.next_place-place.ensures.has leg size) is.sent in
+          (rw c.core.ensures at c.ticks-ticks.ensures) c.deref.ensures.value (c.next_place-place.ensures.has leg size) is.sent in
           let rest : SameCounts f.source c.make.new.self = record {
             total = m.rest.total ∙ ap (λ (s : Counted). s.total) p.rest;
             landed = m.rest.landed ∙ ap (λ (s : Counted). s.landed) p.rest;
@@ -77,7 +77,7 @@ returns c =
           (with_cell cells c.make.result) n) p.ticks)
           (sent_frames c.next_place-place.new.sent) sent
           c.next_place-place.new.sent.items c.make.new.frame refl refl c.next_place-place.result
-          (c.next_place-place.ensures.place ∙ ap (λ n. n % 32) c.ticks-ticks.ensures));
+          (c.next_place-place.ensures.place ∙ ap (λ n. n % 32) (rw c.core.ensures at c.ticks-ticks.ensures)));
       cell = c.make.ensures.cell ∙ same-cell c.self.inside.source c.pass_on.new.source p.rest p.ticks p.kind
           ∙ ap (λ (p : Parts). cell_for (is_some (needed p.source.core)) p.source.inbox.cells) c.self.view_is;
       inbox = c.make.ensures.inbox ∙ same-rest c.self.inside.source c.pass_on.new.source p.rest p.ticks p.kind

@@ -16,7 +16,7 @@ can-mend c =
     let was = line-was leg backs _ _ c.self.view_is stands c.args.line c.from-m.result c.from-m.ensures c.requires.line
     c.index_mut.result.now c.index_mut.ensures.value in
     subst (CanClose c.index_mut.result.now.core.windows)
-    (sym (c.ticks-end.ensures ∙ ap (λ (p : Parts). p.source.core.ticks) c.self.view_is))
+    (sym ((rw c.core.ensures at c.ticks-end.ensures) ∙ ap (λ (p : Parts). p.source.core.ticks) c.self.view_is))
     (subst (λ (w : List Window). CanClose w c.args.self.now.source.core.ticks) was.windows c.requires.cut)
 
 pub mend-requires : goal.mend-requires
@@ -24,7 +24,7 @@ mend-requires c =
     let (leg, backs, stands) = c.requires.stands in
     let was = line-was leg backs _ _ c.self.view_is stands c.args.line c.from-m.result c.from-m.ensures c.requires.line
     c.index_mut.result.now c.index_mut.ensures.value in
-    let ticks = c.ticks-end.ensures ∙ ap (λ (p : Parts). p.source.core.ticks) c.self.view_is in
+    let ticks = (rw c.core.ensures at c.ticks-end.ensures) ∙ ap (λ (p : Parts). p.source.core.ticks) c.self.view_is in
     let pushed = was.pushed in
     record { cut = can-mend (goal.at.mend-requires c).After-index_mut; pushed = omega (arith, ticks, pushed) }
 
@@ -34,7 +34,8 @@ returns c =
     let end = c.ticks-end.result in
     let damaged = λ (leg : Leg) (backs : ℕ) (stands : WayStands leg backs c.args.self.now).
     line-damaged leg backs _ _ c.self.view_is stands c.args.line c.from-m.result c.from-m.ensures c.requires.line
-    line c.index_mut.ensures.value (λ w n _. closed_at w n) c.mend.new.self end c.ticks-end.ensures
+    line c.index_mut.ensures.value (λ w n _. closed_at w n) c.mend.new.self end
+    (rw c.core.ensures at c.ticks-end.ensures)
     (c.mend.ensures.has (calls_of leg c.args.line line))
     (λ t low. closed-before line.core.windows end t (can-mend (goal.at.returns c).After-index_mut) low)
     c.mend.ensures.ring c.mend.ensures.carried c.mend.ensures.popped in

@@ -12,7 +12,7 @@ returns c leg backs stands =
     let landed = c.landed-landed.ensures in
     totals-are leg backs _ (subst (WayStands leg backs) (sym c.self.view_is) stands)
     c.ticks.result c.taken.result c.accepted.result c.accepted-2.result c.all_refused.result
-    c.ticks.ensures c.taken.ensures
+    (rw c.core.ensures at c.ticks.ensures) c.taken.ensures
     (c.accepted.ensures ∙ ap (λ (l : LandedCounts). l.frames - l.refused_frames) landed)
     (c.accepted-2.ensures ∙ ap (λ (l : LandedCounts). l.commands - l.refused_commands) landed)
     (c.all_refused.ensures

@@ -7,6 +7,6 @@ use Rattle.walk_engine.proofs.walk_core.one_way.WayCore.waiting.Goals as goal
 
 pub returns-clause-waits : goal.returns-clause-waits
 returns-clause-waits c leg backs stands =
-    c.waiting.ensures.count
+    (rw (c.queue.ensures, c.core.ensures) at c.waiting.ensures.count)
     ∙ waiting-after leg backs _ (subst (WayStands leg backs) (sym c.self.view_is) stands)
     ∙ ap (λ (p : Parts). waiting_in leg (counts_of p backs)) c.self.view_is

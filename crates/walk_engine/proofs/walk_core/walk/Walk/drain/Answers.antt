@@ -17,7 +17,7 @@ loop-self-init g c = record {
 pub loop-self-smaller : goal.loop-self-smaller
 loop-self-smaller g c =
     let is = c.self.invariant in
-    let taken = c.taken.ensures in
+    let taken = rw (c.sink.ensures, c.way.ensures.way) at c.taken.ensures in
     let test = c.loop-self-test.true in
     (script-turn _ _ c.self.view_is _ c.loop-self.invariant.script is.0.sound is.1.stands.stands.walked
     (omega (arith, test, taken)) _ c.round.ensures.counts).0.0
@@ -26,7 +26,7 @@ pub loop-self-preserved : goal.loop-self-preserved
 loop-self-preserved g c =
     let inv = c.loop-self.invariant in
     let is = c.self.invariant in
-    let taken = c.taken.ensures in
+    let taken = rw (c.sink.ensures, c.way.ensures.way) at c.taken.ensures in
     let test = c.loop-self-test.true in
     let turn = script-turn _ _ c.self.view_is _ inv.script is.0.sound is.1.stands.stands.walked
     (omega (arith, test, taken)) _ c.round.ensures.counts in
@@ -49,7 +49,7 @@ pub returns : goal.returns
 returns g c =
     let inv = c.loop-self.invariant in
     let is = c.self.invariant in
-    let taken = c.taken.ensures in
+    let taken = rw (c.sink.ensures, c.way.ensures.way) at c.taken.ensures in
     let test = c.loop-self-test.false in
     let end = script-end _ _ c.self.view_is _ inv.script is.0.sound is.1.stands.stands.walked (omega (arith, test, taken)) _
     inv.left in

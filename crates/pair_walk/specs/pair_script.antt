@@ -1,5 +1,0 @@
-pub mod PairTextLines
-pub mod PairOfText
-pub mod Faults
-pub mod Pieces
-pub mod Inputs
