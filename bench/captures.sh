@@ -41,6 +41,8 @@ items() {
 # ---- capture
 scripts=0 frames=0 good=0 sent=0 right=0
 for script in examples/*.vcat; do
+    # The frames of a `stream` stand in no line.
+    if grep -q '^stream' "$script"; then continue; fi
     "$program" walk < "$script" > "$work/text" 2> "$work/notes" || continue
     "$program" capture < "$script" > "$work/got.pcap" || complain "$script: no capture"
     scripts=$((scripts + 1))

@@ -1,6 +1,6 @@
 #!/bin/sh
 # Times `walk` from outside, over 256 frames of 9,600 octets and 1,000,000 ticks, and says how many octets of the container
-# frames go through the program in a second, and its greatest memory. The program has to be built: rt ci does it, or VCAT_PROVED=1 ./vcat.
+# frames go through the program in a second, and its greatest memory; with a word, over so many ticks. The program has to be built: rt ci does it, or VCAT_PROVED=1 ./vcat.
 cd "$(dirname "$0")/.." || exit 1
 program=$PWD/crates/vcat_walk/out/vcat_walk
 ticks=${1:-1000000}

@@ -14,8 +14,8 @@ it `walk` writes the same as of a text of one way.
 - Event lines make as many rounds as these ticks took, and land all items; the two scripts of a pair have none.
 
 Mostly a round makes a tick. At a lag that is hardly enough for the delays some don't; then PROGRAM WORDS, at first `./vcat walk`, is asked which
-is the least number of rounds that makes the ticks. With WAY the script comes of `pair WAY` in the place of its last word. A line that `live` refused
-is told, with status 2: it has to be left out, with all behind it.
+is the least number of rounds that makes the ticks. With WAY the script comes of `pair WAY` in the place of its last word. Most lines that
+`live` refuses are pointed out, with status 2: such a line has to be left out, with all behind it.
 """
 import argparse
 import pathlib
