@@ -18,7 +18,7 @@ add() {
 }
 
 # The tests of crates, beside all else, without the toolchain's checks where that can be.
-tests="parts_tests command_walk_tests command_run_tests"
+tests="parts_tests command_walk_tests command_live_tests command_run_tests"
 if command -v rt > /dev/null 2>&1; then
     # shellcheck source=/dev/null
     . "$top/tools/build.sh"

@@ -1,7 +1,1 @@
-pub mod H4TextAndPacketsLaws
-pub mod ServiceBesideFatesLaws
-pub mod StreamSizeLaws
-pub mod TurnsLeftLaws
-pub mod WalkCaptureAndFrameSumLaws
 pub mod WalkCommandAndHeadlineLaws
-pub mod WalkTraceAndEventCountLaws

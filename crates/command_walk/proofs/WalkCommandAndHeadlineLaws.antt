@@ -1,17 +1,13 @@
--- What is known of a command by its words, what it answers and under which headline, and how its task ends.
-use Rattle.std.proofs.Common.{◌≡◌, ◌≤◌, ℕ, Bool, List, length, Option, Some, None, IfSome, Result, Ok, Err, refl, sym}
-use Rattle.std.proofs.Common.{◌∙◌, ap, subst, inl, inr, arith, OnOk, ◌<◌, true, false, ◌&&◌, nat_le, [], ◌∷◌}
-use Rattle.std.proofs.Common.{if◌then◌else◌, map, ◌++◌, append_assoc, decimal, ◌-◌, ◌+◌, reverse, slice_index_or}
-use Rattle.std.proofs.Common.{flat_map}
-use Rattle.law_model.specs.Common.{Counts, IsWithin, Leg, leg_of, scenario_by}
+-- What is known of a command by its words, under which headline it answers, and how its task ends.
+use Rattle.std.proofs.Common.{◌≡◌, ◌≤◌, ℕ, List, length, Option, Some, None, IfSome, Result, Ok, Err, refl, sym}
+use Rattle.std.proofs.Common.{subst, inl, inr, arith}
 use Rattle.law_model.specs.declared.script_types.Script.{Script}
 use Rattle.text_scripts.specs.declared.script_read.script_fault.ScriptFault.{ScriptFault}
 use Rattle.text_scripts.specs.script_read.Script.{script_of}
-use Rattle.law_headline.specs.WalkTexts.{counts_in, walk_text}
-use Rattle.law_headline.specs.Headline.{IsWalkHeadline, IsRunReport}
-use Rattle.law_headline.proofs.ScriptTextHeadlineLaws.{walk_headline, walk_report, run_report}
-use Rattle.walk_engine.specs.Common.{Walked}
-use Rattle.command_parts.specs.Common.{Answer, reads, talks, Lent, Takes, WritesAll, Ends, HasScript, answer_of}
+use Rattle.law_headline.specs.WalkTexts.{walk_text}
+use Rattle.law_headline.specs.Headline.{IsWalkHeadline}
+use Rattle.law_headline.proofs.ScriptTextHeadlineLaws.{walk_headline}
+use Rattle.command_parts.specs.Common.{Answer, reads, talks, Lent, Takes, WritesAll, Ends, answer_of}
 use Rattle.command_parts.specs.Common.{script_answer, none, IsCommand, Kept, IsTold as IsTaskTold, no_command}
 use Rattle.command_parts.specs.Common.{note_of, HasRunAt, Task, lent, makes, status_at}
 use Rattle.command_parts.proofs.TaskEndAndStatusLaws.{as-talk, is-done, known-text, ends-given, ends-talk, when-run}
@@ -26,92 +22,28 @@ use Rattle.walk_live.specs.Headline.{IsLiveHeadline}
 use Rattle.walk_live.proofs.ConversationAnswerLaws.{live_headline}
 use Rattle.pair_live.specs.PairHeadline.{IsLivePairHeadline}
 use Rattle.pair_live.proofs.PairConversationLaws.{pair_headline as live_pair_headline}
-use Rattle.command_walk.specs.commands.Live.{asks, live_talk, live_words}
-use Rattle.command_walk.specs.commands.LivePair.{asks_pair, live_pair_talk, live_pair_words}
+use Rattle.command_rooms.specs.commands.Live.{live_talk}
+use Rattle.command_walk.specs.commands.LivePair.{live_pair_talk}
 use Rattle.walk_live.specs.declared.asked.Asked.{Asked}
-use Rattle.walk_live.specs.declared.asked.Asked.TheVariants.{Nothing, Steps, Members}
-use Rattle.command_walk.specs.commands.Pair.{TellsPair, pair_words}
-use Rattle.command_walk.specs.commands.OneWay.{is_way, one_way_words}
-use Rattle.command_walk.specs.declared.command_of_words.WalkCommand.{WalkCommand}
-use Rattle.command_walk.specs.HandedWalk.{HandsScript}
-use Rattle.std.specs.Prelude.{String, string_bytes, IsNone, nat_lt, drop, ◌==◌, bytes_eq, codes}
-use Rattle.std.specs.Option.{option_or}
+use Rattle.command_walk.specs.commands.Pair.{TellsPair}
+use Rattle.command_rooms.specs.declared.walk_command.WalkCommand.{WalkCommand}
+use Rattle.std.specs.Prelude.{String, IsNone}
 use Rattle.std.specs.declared.alloc.Global.{Global}
-use Rattle.std.proofs.lemmas.Bool.{cases_Bool, ltb-true}
-use Rattle.command_words.specs.CommandLineWords.{number_in, are_plain}
 use Rattle.command_parts.specs.Task.{writes, writes_both}
 use Rattle.command_parts.specs.declared.stop_and_status.Stop.TheVariants.{Memory, Read, Refused, TooLong, Write}
 use Rattle.command_parts.proofs.SourceTextAndStopLaws.{ends-no-memory}
-use Rattle.command_walk.specs.declared.command_of_words.WalkCommand.TheVariants.{Walk, Trace, Fates, Capture, Gfp}
-use Rattle.command_walk.specs.declared.command_of_words.WalkCommand.TheVariants.{Frames, Decode, Noise, Au4, Channels}
-use Rattle.command_walk.specs.declared.command_of_words.WalkCommand.TheVariants.{Pair, Check, Live, LivePair, OneWay}
-use Rattle.law_pair.specs.declared.pair_events.Way.TheVariants.{There, Back}
-use Rattle.command_walk.specs.commands.Walk.{word_at, is_word, walk_words}
-use Rattle.command_walk.specs.commands.Trace.{trace_words, trace_text}
-use Rattle.command_walk.specs.commands.Fates.{fates_words, fates_answer, EndsTrue, WalksTrue}
-use Rattle.command_walk.specs.commands.Check.{check_words}
-use Rattle.command_walk.specs.commands.H4.{line_of, h4_words}
-use Rattle.command_walk.specs.commands.Service.{interval_of, service_words}
-use Rattle.command_walk.specs.commands.Capture.{capture_words}
-use Rattle.command_walk.specs.commands.Gfp.{gfp_words}
-use Rattle.command_walk.specs.commands.Frames.{frames_words}
-use Rattle.command_walk.specs.commands.Decode.{decode_words}
-use Rattle.command_walk.specs.commands.Noise.{noise_words, got_through, noise_answer}
-use Rattle.command_walk.specs.commands.Au4.{au4_words, carried, au4_answer}
-use Rattle.command_walk.specs.commands.Channels.{channels_words, shared, TellsPlan}
-use Rattle.command_walk.specs.commands.Make.{load_of, make_words}
-use Rattle.command_walk.specs.commands.Stream.{sizes_in, ticks_of, rate_of, numbers_in, stream_words}
-use Rattle.command_walk.proofs.StreamSizeLaws.{FitRate, number-fits, sizes-fit}
-use Rattle.command_walk.specs.WordsOfCommands.{command_of, command_in, task_for, task_of, usage, Fits, task_at}
+use Rattle.command_rooms.specs.declared.walk_command.WalkCommand.TheVariants.{Walk, Trace}
+use Rattle.command_rooms.specs.commands.Trace.{trace_text}
+use Rattle.command_rooms.specs.CommandOfWords.{command_in}
+use Rattle.command_walk.specs.WordsOfCommands.{task_for, task_of, usage, task_at}
 use Rattle.command_walk.specs.WordsOfCommands.{RunsScript}
 use Rattle.command_parts.specs.Gives.{IsEnd, StopsTalk}
 use Rattle.command_parts.specs.Talk.{Talk}
 use Rattle.command_parts.specs.declared.stop_and_status.Ran.{Ran}
 use Rattle.command_parts.specs.declared.stop_and_status.Stop.{Stop}
 use Rattle.command_walk.specs.GivesByTask.{GivesFor}
-use Rattle.member_au4.specs.declared.au4_link.au4_draft.Link.{Link}
-use Rattle.member_au4.specs.au4_link.Link.{link_of}
-use Rattle.member_au4.specs.au4_link.Carried.{carried_text}
-use Rattle.member_au4.proofs.LinkDraftAndActionLaws.{link-written}
-use Rattle.gfp_noise.specs.declared.noise_link.noise_draft.Noise.{Noise as NoiseOfText}
-use Rattle.gfp_noise.specs.noise_link.Noise.{noise_of}
-use Rattle.gfp_noise.specs.noise_link.NoiseReportText.{AreSingle, untouched_text}
-use Rattle.gfp_noise.proofs.NoiseDraftLaws.{single_written}
-use Rattle.gfp_channels.specs.declared.channel_link.channel_draft.ChannelPlan.{ChannelPlan}
-use Rattle.gfp_channels.specs.channel_link.Plan.{plan_of}
-use Rattle.gfp_channels.specs.channel_link.ChannelReportText.{plan_text}
-use Rattle.gfp_channels.proofs.ChannelPlanDraftLaws.{plan_report}
-use Rattle.std.proofs.lemmas.List.{reverse-append}
-use Rattle.law_progress.proofs.RoundProgressAndDrainLaws.{walked-reached}
-use Rattle.law_walk.specs.Common.{walk_plan, session_of, session_rows, session_pieces, ConfirmsTrue, final_report}
-use Rattle.text_scripts.proofs.ScriptLineAndFirstFaultLaws.{valid_text}
-use Rattle.fate_engine.specs.Common.{are_true_marks, spoiled_of, later_segments, Ended, ended_of, is_refused, has_got}
-use Rattle.fate_engine.specs.Common.{has_waited, count_of, spoiled_text, segment_text, ended_text, fates_end}
-use Rattle.fate_engine.specs.Common.{fates_text}
-use Rattle.fate_engine.proofs.GotFateAndLandedFrameLaws.{starts-decided}
-use Rattle.law_model.specs.Common.{most_drawn_ticks, most_ticks}
 
--- ---- What the rooms of the commands make, and the headline of what they write.
--- the walk of a script
-pub walk-is : (walk : Walked) (script : Script) (s : Counts) → walk.script ≡ script → walk.counts ≡ s →
-    walk ≡ record { script = script; counts = s }
-walk-is walk script s same counts =
-    let f : Script → Walked = λ script. record { script = script; counts = walk.counts } in
-    let g : Counts → Walked = λ s. record { script = script; counts = s } in
-    ap f same ∙ ap g counts
-
-pub hands-script : {S : Type 0} (source : Lent S) (script : Script) (walk : Walked) → HasScript source script →
-    walk.script ≡ script → walk.counts ≡ counts_in script
-    → HandsScript source (Some walk)
-hands-script source script walk has mine counts =
-    (script, has, ap Some (walk-is walk script (counts_in script) mine counts))
-
--- both facts of what is written, where it is
-pub both-ok : {T X : Type 0} (A B : Type 0) (end_ : Result T X) → OnOk end_ A → OnOk end_ B → OnOk end_ (A × B)
-both-ok A B (Ok t) a b = (a, b)
-both-ok A B (Err x) a b = tt
-
--- ---- the headline
+-- ---- The headline of what the rooms of the commands write.
 module _ {S K E : Type 0} (source : Lent S) (out : Lent K) (notes : Lent E) (answer : Script → Answer) (status : ℕ)
     (tells : (script : Script) → WritesAll out notes (answer script) → Takes out (walk_text script)) where
   abbrev IsTold : List ℕ → Type 0
@@ -191,162 +123,6 @@ pub some-command : (P : WalkCommand → Type 0) (o : Option WalkCommand) (comman
 some-command P o command is holds = let Q : Option WalkCommand → Type 0 = λ o. IfSome o P in subst Q (sym is) holds
 
 -- ---- What is known of a command by the words that it was, and of its task.
--- ---- numbers
-or-fits : (f g : Option WalkCommand) → IfSome f Fits → IfSome g Fits → IfSome (option_or f g) Fits
-or-fits None g a b = b
-or-fits (Some command) g a b = a
-
-if-fits : (test : Bool) (f : Option WalkCommand) → IfSome f Fits → IfSome (if test then f else None) Fits
-if-fits true f fits = fits
-if-fits false f fits = tt
-
-either-fits : (test : Bool) (f g : Option WalkCommand) → IfSome f Fits → IfSome g Fits →
-    IfSome (if test then f else g) Fits
-either-fits true f g fits other = fits
-either-fits false f g fits other = other
-
-load-fits : (number lines ticks : Option ℕ) → IfSome lines (IsWithin 1 64) → IfSome ticks (IsWithin 1 most_drawn_ticks) →
-    IfSome (load_of number lines ticks) Fits
-load-fits (Some number) (Some lines) (Some ticks) a b = (a, b)
-load-fits (Some number) (Some lines) None a b = tt
-load-fits (Some number) None ticks a b = tt
-load-fits None lines ticks a b = tt
-
--- the ticks from one to before another
-abbrev AreTicks : ℕ × ℕ → Type 0
-AreTicks ticks = (ticks.0 < ticks.1) × (ticks.1 ≤ most_ticks)
-
-ticks-fit : (first end : Option ℕ) → IfSome end (IsWithin 0 most_ticks) → IfSome (ticks_of first end) AreTicks
-ticks-fit (Some first) (Some end) a =
-    elim (cases_Bool (nat_lt first end)) [
-      | inl less ↦ rw less (ltb-true first end less, a.1)
-      | inr not ↦ rw not tt
-    ]
-ticks-fit (Some first) None a = tt
-ticks-fit None end a = tt
-
-rate-fits : (sizes : Option (List ℕ)) (mbits : Option ℕ) (ticks : Option (ℕ × ℕ)) (number : Option ℕ) →
-    IfSome sizes FitRate → IfSome mbits (IsWithin 1 400000) → IfSome ticks AreTicks →
-    IfSome (rate_of sizes mbits ticks number) Fits
-rate-fits (Some sizes) (Some mbits) (Some ticks) (Some number) a b c =
-    record { some = a.0; few = a.1; sizes = a.2; moves = b.0; slow = b.1; before = c.0; end = c.1 }
-rate-fits (Some sizes) (Some mbits) (Some ticks) None a b c = tt
-rate-fits (Some sizes) (Some mbits) None number a b c = tt
-rate-fits (Some sizes) None ticks number a b c = tt
-rate-fits None mbits ticks number a b c = tt
-
--- ---- words
-line-fits : (line : Option ℕ) → IfSome line (IsWithin 0 127) → IfSome (line_of line) Fits
-line-fits (Some line) within = within.1
-line-fits None within = tt
-
-h4-fits : (words : List (List ℕ)) → IfSome (h4_words words) Fits
-h4-fits words =
-    if-fits (length words == 2 && bytes_eq (word_at 0 words) (codes "h4")) (line_of (number_in 0 127 (word_at 1 words)))
-    (line-fits (number_in 0 127 (word_at 1 words)) (number-fits 0 127 (word_at 1 words)))
-
-interval-fits : (interval : Option ℕ) → IfSome interval (IsWithin 1 most_ticks) → IfSome (interval_of interval) Fits
-interval-fits (Some interval) within = within
-interval-fits None within = tt
-
-service-fits : (words : List (List ℕ)) → IfSome (service_words words) Fits
-service-fits words =
-    if-fits (length words == 2 && bytes_eq (word_at 0 words) (codes "service"))
-    (interval_of (number_in 1 most_ticks (word_at 1 words)))
-    (interval-fits (number_in 1 most_ticks (word_at 1 words)) (number-fits 1 most_ticks (word_at 1 words)))
-
-live-fits : (words : List (List ℕ)) → IfSome (live_words words) Fits
-live-fits words =
-    let last = if asks (codes "told") words then Some (Live Members) else None in
-    either-fits (is_word (codes "live") words) (Some (Live Nothing))
-    (if asks (codes "trace") words then Some (Live Steps) else last) tt
-    (either-fits (asks (codes "trace") words) (Some (Live Steps)) last tt
-    (if-fits (asks (codes "told") words) (Some (Live Members)) tt))
-
-live-pair-fits : (words : List (List ℕ)) → IfSome (live_pair_words words) Fits
-live-pair-fits words =
-    let last = if asks_pair (codes "told") words then Some (LivePair Members) else None in
-    either-fits (asks (codes "pair") words) (Some (LivePair Nothing))
-    (if asks_pair (codes "trace") words then Some (LivePair Steps) else last) tt
-    (either-fits (asks_pair (codes "trace") words) (Some (LivePair Steps)) last tt
-    (if-fits (asks_pair (codes "told") words) (Some (LivePair Members)) tt))
-
-one-way-fits : (words : List (List ℕ)) → IfSome (one_way_words words) Fits
-one-way-fits words =
-    either-fits (is_way (codes "there") words) (Some (OneWay There))
-    (if is_way (codes "back") words then Some (OneWay Back) else None) tt
-    (if-fits (is_way (codes "back") words) (Some (OneWay Back)) tt)
-
-make-fits : (words : List (List ℕ)) → IfSome (make_words words) Fits
-make-fits words =
-    let number = number_in 0 18446744073709551615 (word_at 1 words) in
-    let lines = number_in 1 64 (word_at 2 words) in
-    let ticks = number_in 1 most_drawn_ticks (word_at 3 words) in
-    if-fits (length words == 4 && bytes_eq (word_at 0 words) (codes "make")) (load_of number lines ticks)
-    (load-fits number lines ticks (number-fits 1 64 (word_at 2 words)) (number-fits 1 most_drawn_ticks (word_at 3 words)))
-
-numbers-fit : (ws : List (List ℕ)) → IfSome (numbers_in ws) Fits
-numbers-fit ws =
-    let sizes = sizes_in (word_at 0 ws) in
-    let mbits = number_in 1 400000 (word_at 1 ws) in
-    let first = number_in 0 most_ticks (word_at 2 ws) in
-    let end = number_in 0 most_ticks (word_at 3 ws) in
-    let number = number_in 0 18446744073709551615 (word_at 4 ws) in
-    if-fits (length ws == 5) (rate_of sizes mbits (ticks_of first end) number)
-    (rate-fits sizes mbits (ticks_of first end) number (sizes-fit (word_at 0 ws))
-    (number-fits 1 400000 (word_at 1 ws))
-    (ticks-fit first end (number-fits 0 most_ticks (word_at 3 ws))))
-
-stream-fits : (words : List (List ℕ)) → IfSome (stream_words words) Fits
-stream-fits words =
-    if-fits (nat_le 1 (length words) && bytes_eq (word_at 0 words) (codes "stream")) (numbers_in (drop 1 words))
-    (numbers-fit (drop 1 words))
-
-word-fits : (name : List ℕ) (words : List (List ℕ)) (command : WalkCommand) → Fits command →
-    IfSome (if is_word name words then Some command else None) Fits
-word-fits name words command = if-fits (is_word name words) (Some command)
-
--- the first that is there
-abbrev Fitting : Type 0
-Fitting = (f : Option WalkCommand) × IfSome f Fits
-
-abbrev or-any : Option WalkCommand → List Fitting → Option WalkCommand
-or-any f [] = f
-or-any f (g ∷ more) = or-any (option_or f g.0) more
-
-any-fits : (f : Option WalkCommand) → IfSome f Fits → (more : List Fitting) → IfSome (or-any f more) Fits
-any-fits f a [] = a
-any-fits f a (g ∷ more) = any-fits (option_or f g.0) (or-fits f g.0 a g.1) more
-
-named-fits : (words : List (List ℕ)) → IfSome (command_of words) Fits
-named-fits words =
-    any-fits (walk_words words) (word-fits (codes "walk") words Walk tt)
-    ((trace_words words, word-fits (codes "trace") words Trace tt)
-    ∷ (fates_words words, word-fits (codes "fates") words Fates tt)
-    ∷ (check_words words, word-fits (codes "check") words Check tt)
-    ∷ (h4_words words, h4-fits words)
-    ∷ (service_words words, service-fits words)
-    ∷ (capture_words words, word-fits (codes "capture") words Capture tt)
-    ∷ (gfp_words words, word-fits (codes "gfp") words Gfp tt)
-    ∷ (frames_words words, word-fits (codes "frames") words Frames tt)
-    ∷ (decode_words words, word-fits (codes "decode") words Decode tt)
-    ∷ (noise_words words, word-fits (codes "noise") words Noise tt)
-    ∷ (au4_words words, word-fits (codes "au4") words Au4 tt)
-    ∷ (channels_words words, word-fits (codes "channels") words Channels tt)
-    ∷ (pair_words words, word-fits (codes "pair") words Pair tt)
-    ∷ (one_way_words words, one-way-fits words)
-    ∷ (live_words words, live-fits words)
-    ∷ (live_pair_words words, live-pair-fits words)
-    ∷ (make_words words, make-fits words)
-    ∷ (stream_words words, stream-fits words)
-    ∷ [])
-
-pub fits : (words : List (String Global)) (command : WalkCommand) → command_in words ≡ Some command → Fits command
-fits words command is =
-    let P : Option WalkCommand → Type 0 = λ o. IfSome o Fits in
-    subst P is (if-fits (are_plain (map string_bytes words)) (command_of (map string_bytes words))
-    (named-fits (map string_bytes words)))
-
 -- ---- what stands of any command
 pub any-command : (P : WalkCommand → Type 0) (o : Option WalkCommand) → ((command : WalkCommand) → P command) →
     IfSome o P
@@ -449,110 +225,3 @@ module _ {S K E T : Type 0} (source : Lent S) (out : Lent K) (written : E → Op
   run-for (makes answer) P ran result gives end_ at =
       when-run source out written faults first middle last (makes answer) Made status P ran result gives end_ at
   run-for (talks talk) P ran result gives end_ at = talk-run talk P ran result gives end_ at
-
--- ---- What is written of a text that says a link, frames and flips, or a plan.
-pub au4-written : (text : List ℕ) (link : Link) → link_of text ≡ Ok link → au4_answer text ≡ writes (carried_text link)
-au4-written text link said = ap carried said ∙ ap writes (link-written text link said)
-
-pub noise-written : (text : List ℕ) (noise : NoiseOfText) → noise_of text ≡ Ok noise → AreSingle noise →
-    noise_answer text ≡ writes (untouched_text noise)
-noise-written text noise said single = ap got_through said ∙ ap writes (single_written text noise said single)
-
-pub plan-written : (text : List ℕ) (plan : ChannelPlan) → plan_of text ≡ Ok plan → TellsPlan text plan
-plan-written text plan said =
-    record { report = plan_text plan; answers = ap shared said; is = plan_report text plan said }
-
--- ---- What `walk` writes of a text of which `fates` says that each start was true.
--- ---- how a text ends
--- the octet that is the third from the end
-abbrev third : List ℕ → ℕ
-third text = slice_index_or (reverse text) 2 0
-
-third-false : (front : List ℕ) → third (front ++ codes "false\n") ≡ 115
-third-false front = ap (λ (l : List ℕ). slice_index_or l 2 0) (reverse-append front (codes "false\n"))
-
-third-true : (front : List ℕ) → third (front ++ codes "starts true\n") ≡ 117
-third-true front = ap (λ (l : List ℕ). slice_index_or l 2 0) (reverse-append front (codes "starts true\n"))
-
-apart : (n : ℕ) → n ≡ 115 → n ≡ 117 → ⊥
-apart n is other = omega (arith, is, other)
-
--- what stands in the last line before the word of truth
-abbrev before_truth : ℕ → ℕ → List Ended → List ℕ
-before_truth ticks rows all =
-    codes "fates ticks " ++ decimal ticks ++ codes " taken " ++ decimal rows
-    ++ codes " frames " ++ decimal (length all - count_of is_refused all)
-    ++ codes " got " ++ decimal (count_of has_got all)
-    ++ codes " lost " ++ decimal (length all -
-    (count_of is_refused all + count_of has_got all + count_of has_waited all))
-    ++ codes " waits " ++ decimal (count_of has_waited all)
-    ++ codes " refused " ++ decimal (count_of is_refused all)
-    ++ codes " starts "
-
-ends-false : (lines : List ℕ) (ticks rows : ℕ) (all : List Ended) →
-    third (lines ++ fates_end ticks rows all false) ≡ 115
-ends-false lines ticks rows all =
-    let before : List ℕ = before_truth ticks rows all in
-    ap (λ (l : List ℕ). third (lines ++ l)) (append_assoc before (codes "false") (codes "\n"))
-    ∙ ap third (sym (append_assoc lines before (codes "false\n")))
-    ∙ third-false (lines ++ before)
-
-truth : (lines : List ℕ) (ticks rows : ℕ) (all : List Ended) (starts : Bool) →
-    EndsTrue (lines ++ fates_end ticks rows all starts) → starts ≡ true
-truth lines ticks rows all true ends = refl
-truth lines ticks rows all false ends =
-    absurd (apart _ (ends-false lines ticks rows all) (ap third ends.1 ∙ third-true ends.0))
-
--- ---- the walk
-marks-true : (leg : Leg) (s : Counts) → EndsTrue (fates_text leg s) →
-    are_true_marks (session_pieces leg) (session_rows leg s.rows) ≡ true
-marks-true leg s ends =
-    truth
-    (flat_map spoiled_text (spoiled_of (scenario_by leg) (session_of leg) s.rows)
-    ++ flat_map (segment_text (session_pieces leg) (session_rows leg s.rows))
-    (later_segments (session_rows leg s.rows))
-    ++ flat_map ended_text (ended_of leg s))
-    s.ticks s.rows (ended_of leg s) (are_true_marks (session_pieces leg) (session_rows leg s.rows)) ends
-
-abbrev walks : Script → Answer
-walks script = writes (walk_text script)
-
-abbrev tells : Script → Answer
-tells script = writes (fates_text (leg_of script) (counts_in script))
-
--- ---- the text
-module _ (text fates : List ℕ) (script : Script) (short : length text ≤ 67108864) (said : script_of text ≡ Ok script)
-    (same : fates_text (leg_of script) (counts_in script) ≡ fates) (ends : EndsTrue fates) where
-  confirms : ConfirmsTrue (leg_of script) (counts_in script).rows
-  confirms =
-      let leg = leg_of script in
-      let s = counts_in script in
-      (starts-decided leg s (valid_text text script short said).sound
-      (walked-reached (walk_plan leg) script.events)).0 (marks-true leg s (ends.0, same ∙ ends.1))
-
-  walks-told : WalksTrue text
-  walks-told = record {
-    report = walk_text script;
-    answers = ap (answer_of walks) said;
-    is = walk_report text script short said confirms;
-  }
-
-told-true : (text fates : List ℕ) (of : Result Script ScriptFault) → script_of text ≡ of → length text ≤ 67108864 →
-    answer_of tells of ≡ writes fates → EndsTrue fates → WalksTrue text
-told-true text fates (Ok script) said short answers ends =
-    let same : fates_text (leg_of script) (counts_in script) ≡ fates = cc in
-    walks-told text fates script short said same ends
-told-true text fates (Err fault) said short answers ends = absurd cc
-
-pub walks-true : (text fates : List ℕ) → length text ≤ 67108864 → fates_answer text ≡ writes fates →
-    EndsTrue fates → WalksTrue text
-walks-true text fates short answers ends = told-true text fates (script_of text) refl short answers ends
-
-pub runs-true : (text fates : List ℕ) (script : Script) → length text ≤ 67108864 → script_of text ≡ Ok script →
-    script.events ≡ [] → fates_answer text ≡ writes fates → EndsTrue fates →
-    IsRunReport text (final_report (leg_of script))
-runs-true text fates script short said calm answers ends =
-    let told : writes (fates_text (leg_of script) (counts_in script)) ≡ writes fates =
-    sym (ap (answer_of tells) said) ∙ answers in
-    let same : fates_text (leg_of script) (counts_in script) ≡ fates = cc in
-    run_report text script short said calm (confirms text fates script short said same ends)

@@ -1,30 +1,20 @@
-//! The program `vcat_walk` as a call: all commands that need one thread alone.
+//! The program `vcat_walk` as a call.
 //!
-//! The commands walk scripts, write and read captures, decode control packets, invert bits of a stream with FCS,
-//! carry VC-4s over AU-4 frames and frames of channels over a stream with cuts, run a pair of scripts, answer a
-//! live text of one way or of both as it comes, and make loads. The program itself only makes its input and
-//! outputs and hands them over. Each command has a room: a module here for its words and its run, and one of
-//! specs/ for what it means. Begin with `walk_top`: it answers how the task ended that the words are, the
-//! headline, and the walk that was made. `starts_law` says when nothing is presumed of the headline, `agree_law`
-//! that what `service` sums up are the numbers of `fates` and `walk`, `capture_law` whose frames a capture has,
-//! `h4_law` which packets `decode` finds in what `h4` writes, and `noise_law`, `au4_law` and `channels_law` which
-//! frames and VC-4s are written. No clause here knows how a stream is scrambled.
+//! It has all commands that need one thread alone, and the program itself only makes its input and outputs and hands
+//! them over. What the words say, and the rooms of the commands that make no pair, are in `command_rooms`. Those of
+//! both ways have their rooms here, a module for the run of each and one of specs/ for what it means: they run a pair
+//! of scripts, write the script of one way, and answer a live text of both ways as it comes. Begin with `walk_top`: it
+//! answers how the task ended that the words are, the headline, and the walk that was made.
 #![tactic(auto)]
 
 mod command_of_words;
 mod commands;
-mod hex_text;
 mod top_call;
-mod turns;
 mod walk_end;
 
-pub use command_of_words::WalkCommand;
-pub use commands::au4::au4_law;
-pub use commands::capture::{capture_law, capture_read_law};
-pub use commands::channels::channels_law;
-pub use commands::fates::starts_law;
-pub use commands::h4::h4_law;
-pub use commands::noise::noise_law;
-pub use commands::service::agree_law;
+pub use command_rooms::{
+    WalkCommand, agree_law, au4_law, capture_law, capture_read_law, channels_law, h4_law,
+    noise_law, starts_law,
+};
 pub use top_call::walk_top;
 pub use walk_end::WalkEnd;

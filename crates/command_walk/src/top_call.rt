@@ -7,10 +7,11 @@ ghost use Rattle.walk_live.specs.declared.asked.Asked.{Asked};
 ghost use Rattle.pair_live.specs.PairHeadline.{IsLivePairHeadline};
 ghost use Rattle.command_parts.specs.Status.{HasRunAt};
 ghost use Rattle.command_parts.specs.Ends.{Ends, lent};
-ghost use Rattle.command_walk.specs.declared.command_of_words.WalkCommand.TheVariants.{Live, LivePair};
-ghost use Rattle.command_walk.specs.declared.command_of_words.WalkCommand.TheVariants.{Pair};
+ghost use Rattle.command_rooms.specs.declared.walk_command.WalkCommand.TheVariants.{Live, LivePair};
+ghost use Rattle.command_rooms.specs.declared.walk_command.WalkCommand.TheVariants.{Pair};
 ghost use Rattle.command_walk.specs.commands.Pair.{TellsPair};
-ghost use Rattle.command_walk.specs.WordsOfCommands.{command_in, task_of, HandsBack, RunsScript};
+ghost use Rattle.command_rooms.specs.CommandOfWords.{command_in};
+ghost use Rattle.command_walk.specs.WordsOfCommands.{task_of, HandsBack, RunsScript};
 
 use crate::command_of_words::{no_command, run};
 use crate::walk_end::{WalkEnd, end_of};

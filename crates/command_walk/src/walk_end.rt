@@ -2,7 +2,7 @@
 ghost use Rattle.std.specs.Prelude.{◌≡◌, ◌≢◌, None};
 ghost use Rattle.command_parts.specs.Ends.{lent};
 ghost use Rattle.command_parts.specs.Gives.{IsEnd};
-ghost use Rattle.command_walk.specs.HandedWalk.{walk_of};
+ghost use Rattle.command_rooms.specs.HandedWalk.{walk_of};
 
 use command_parts::{Ran, Stop, tell};
 use octet_io::{ByteSink, Failed};

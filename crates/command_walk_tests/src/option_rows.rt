@@ -1,8 +1,8 @@
 //! Options of scripts: hold-off, wait to restore, and all statuses in 32 return packets. What is expected comes of a
 //! model of the definitions. Rows stand behind functions, so that no proof sees them.
 
-use crate::walk_program::wrong_walk_of;
 use command_rows::Turns;
+use command_walk_rows::wrong_walk_of;
 
 /// One failure that makes two packets in turn unreadable: held or not, and back by how long line 1 waits. Then one from
 /// the start, after which the line has to be restored.

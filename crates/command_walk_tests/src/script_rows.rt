@@ -1,8 +1,8 @@
 //! Scripts, their first faults, and what comes of their walks by a model that was written apart. Rows stand
 //! behind functions, so that no proof sees them.
 
-use crate::walk_program::wrong_walk_of;
 use command_rows::Turns;
+use command_walk_rows::wrong_walk_of;
 
 /// Texts, and the first fault that is told of each, where there is one.
 fn fault_rows() -> &'static str {

@@ -2,8 +2,8 @@
 //! and its faults. What is expected comes of a model of the definitions. Rows stand behind functions, so that no proof
 //! sees them.
 
-use crate::walk_program::wrong_walk_of;
 use command_rows::Turns;
+use command_walk_rows::wrong_walk_of;
 
 /// One damaged container of one line, where the sink stops and where it goes on; the same of both lines, so that none
 /// is read; and a failure of 3 ms. Then a member that is out and silent, which keeps the sink from going on, and a line

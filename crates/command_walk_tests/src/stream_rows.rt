@@ -1,8 +1,8 @@
 //! Scripts with lines of traffic: what is wrong with such a line, and what comes of walks over its frames. The texts
 //! are those of a model that was written apart. Rows stand behind functions, so that no proof sees them.
 
-use crate::walk_program::wrong_walk_of;
 use command_rows::Turns;
+use command_walk_rows::wrong_walk_of;
 
 /// What is wrong with a line: its words in their order, then the number of items, then its place in time.
 fn fault_rows() -> &'static str {

@@ -1,8 +1,8 @@
 //! The program that walks by words, inputs and faults. What is expected comes of a model of the definitions,
 //! or is counted by hand. Rows stand behind functions, so that no proof sees them.
 
-use crate::walk_program::wrong_walk_of;
 use command_rows::{Turns, beginning_row};
+use command_walk_rows::wrong_walk_of;
 
 /// Walks and loads. At the end a line beyond the group of 64, and a frame for which there is no room behind 256 others.
 fn answer_rows() -> &'static str {

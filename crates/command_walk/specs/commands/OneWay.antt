@@ -1,27 +1,13 @@
 -- `pair there` and `pair back`: the script of one way of a pair.
-use Rattle.std.specs.Prelude.{ℕ, ◌==◌, ◌&&◌, nat_lt, Bool, List, length, bytes_eq, codes, Option, Some, None}
-use Rattle.std.specs.Prelude.{if◌then◌else◌}
+use Rattle.std.specs.Prelude.{ℕ, nat_lt, List, length, if◌then◌else◌}
 use Rattle.law_model.specs.Common.{longest_input}
 use Rattle.law_model.specs.declared.script_types.Script.{Script}
 use Rattle.law_pair.specs.declared.pair_events.Way.{Way}
-use Rattle.law_pair.specs.declared.pair_events.Way.TheVariants.{There, Back}
 use Rattle.text_scripts.specs.script_text.ScriptText.{script_text}
 use Rattle.command_parts.specs.Common.{Answer, answer_told, exceeds, writes}
 use Rattle.text_pairs.specs.declared.script_pair.ScriptPair.{ScriptPair}
 use Rattle.text_pairs.specs.Inputs.{pair_answer, pair_told}
 use Rattle.pair_walk.specs.OneWay.{way_script_of}
-use Rattle.command_walk.specs.declared.command_of_words.WalkCommand.{WalkCommand}
-use Rattle.command_walk.specs.declared.command_of_words.WalkCommand.TheVariants.{OneWay}
-use Rattle.command_walk.specs.commands.Walk.{word_at}
-
--- two words, of which the first is `pair`
-abbrev pub is_way : List ℕ → List (List ℕ) → Bool
-is_way way words = length words == 2 && (bytes_eq (word_at 0 words) (codes "pair") && bytes_eq (word_at 1 words) way)
-
-abbrev pub one_way_words : List (List ℕ) → Option WalkCommand
-one_way_words words =
-    if is_way (codes "there") words then Some (OneWay There)
-    else if is_way (codes "back") words then Some (OneWay Back) else None
 
 -- the text of a script, where an input may have as many octets
 abbrev pub script_reply : Script → Answer

@@ -1,13 +1,7 @@
--- `pair`: two scripts, and the report of each way of their pair.
-use Rattle.std.specs.Prelude.{ℕ, List, codes, Option, Some, None, if◌then◌else◌}
+-- `pair`: the report of each way of two scripts.
+use Rattle.std.specs.Prelude.{ℕ, List}
 use Rattle.pair_walk.specs.Headline.{IsPairHeadline}
 use Rattle.command_parts.specs.Common.{Lent, Takes}
-use Rattle.command_walk.specs.declared.command_of_words.WalkCommand.{WalkCommand}
-use Rattle.command_walk.specs.declared.command_of_words.WalkCommand.TheVariants.{Pair}
-use Rattle.command_walk.specs.commands.Walk.{is_word}
-
-abbrev pub pair_words : List (List ℕ) → Option WalkCommand
-pair_words words = if is_word (codes "pair") words then Some Pair else None
 
 -- the headline of two scripts was written: that of the way there on `out`, and that of the way back on notes
 pub record TellsPair {K E : Type 0} (out : Lent K) (notes : Lent E) (text : List ℕ) : Type 0 where

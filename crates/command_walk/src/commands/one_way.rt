@@ -1,11 +1,10 @@
 //! `pair there` and `pair back`: the script of one way of a pair is written. Nothing is run.
-ghost use Rattle.std.specs.Prelude.{◌≡◌, None, map, string_bytes};
+ghost use Rattle.std.specs.Prelude.{◌≡◌, None};
 ghost use Rattle.command_parts.specs.Task.{reads};
 ghost use Rattle.command_parts.specs.Ends.{lent};
 ghost use Rattle.command_parts.specs.Gives.{GivesAlone};
-ghost use Rattle.command_walk.specs.commands.OneWay.{one_way_answer, one_way_words};
+ghost use Rattle.command_walk.specs.commands.OneWay.{one_way_answer};
 
-use crate::command_of_words::WalkCommand;
 use command_parts::{Ran, Stop};
 use law_model::FrameRoom;
 use octet_io::{ByteSink, ByteSource};
@@ -15,21 +14,6 @@ use std::alloc::{AllocError, Global};
 use text_pairs::{read_pair, stop_of_pair};
 use text_scripts::script_text::{is_too_long, write_script};
 use walk_engine::walk_core::Walk;
-
-/// The words `pair` and `there`, or `pair` and `back`.
-pub fn words(words: &[String]) -> Option<WalkCommand>
-    ensures { result ≡ one_way_words (map string_bytes words.now) }
-{
-    match words {
-        [word, way] if word.as_str() == "pair" && way.as_str() == "there" => {
-            Some(WalkCommand::OneWay { way: Way::There })
-        }
-        [word, way] if word.as_str() == "pair" && way.as_str() == "back" => {
-            Some(WalkCommand::OneWay { way: Way::Back })
-        }
-        _ => None,
-    }
-}
 
 /// Reads two scripts and writes that of one way of their pair, where it has at most 67,108,864 octets. All memory is
 /// taken before the first octet is written.

@@ -1,13 +1,11 @@
 //! `pair`: the sessions of two scripts are made, which carry each other's return packets, and the report of each is
 //! written: that of the way there, and on `notes` that of the way back.
-ghost use Rattle.std.specs.Prelude.{◌≡◌, None, map, string_bytes};
+ghost use Rattle.std.specs.Prelude.{◌≡◌, None};
 ghost use Rattle.command_parts.specs.Task.{reads};
 ghost use Rattle.command_parts.specs.Ends.{lent};
 ghost use Rattle.command_parts.specs.Gives.{Gives};
 ghost use Rattle.text_pairs.specs.ReportsOfWays.{pair_reply};
-ghost use Rattle.command_walk.specs.commands.Pair.{pair_words};
 
-use crate::command_of_words::WalkCommand;
 use command_parts::{Ran, Stop};
 use octet_io::{ByteSink, ByteSource};
 use pair_engine::Pair;
@@ -15,16 +13,6 @@ use pair_walk::write_pair;
 use std::alloc::{AllocError, Global};
 use text_pairs::{ScriptPair, read_pair};
 use walk_engine::walk_core::Walk;
-
-/// The words `pair`.
-pub fn words(words: &[String]) -> Option<WalkCommand>
-    ensures { result ≡ pair_words (map string_bytes words.now) }
-{
-    match words {
-        [word] if word.as_str() == "pair" => Some(WalkCommand::Pair),
-        _ => None,
-    }
-}
 
 /// Reads two scripts, makes their pair and writes the report of each way. All memory is taken before the first octet is
 /// written. A write that fails, on `out` or on `notes`, is the last one but for the note on it.

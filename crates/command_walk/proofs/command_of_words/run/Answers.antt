@@ -1,7 +1,7 @@
 -- What each command gives, beside notes or a source that it leaves as they are.
 use Rattle.std.proofs.Common.{refl, subst}
 use Rattle.command_parts.proofs.TaskEndAndStatusLaws.{alone, beside}
-use Rattle.command_walk.specs.WordsOfCommands.{Fits}
+use Rattle.command_rooms.specs.CommandOfWords.{Fits}
 use Rattle.command_walk.proofs.command_of_words.run.Goals as goal
 
 -- ---- their numbers are within bounds

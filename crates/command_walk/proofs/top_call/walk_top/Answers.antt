@@ -1,11 +1,13 @@
 -- The program ends as the command does that the words are.
 use Rattle.std.proofs.Common.{◌≡◌, Option, Some, Err, refl, sym, ap, subst, rules, arith}
 use Rattle.command_parts.specs.Ends.{Ends, lent}
-use Rattle.command_walk.specs.declared.command_of_words.WalkCommand.{WalkCommand}
-use Rattle.command_walk.specs.declared.command_of_words.WalkCommand.TheVariants.{Live, LivePair, Pair}
-use Rattle.command_walk.specs.HandedWalk.{walk_of}
-use Rattle.command_walk.specs.WordsOfCommands.{command_in, task_at, task_for, HandsBack}
-use Rattle.command_walk.proofs.WalkCommandAndHeadlineLaws.{fits, not-run, any-command, no-such-command, ends-usage}
+use Rattle.command_rooms.specs.declared.walk_command.WalkCommand.{WalkCommand}
+use Rattle.command_rooms.specs.declared.walk_command.WalkCommand.TheVariants.{Live, LivePair, Pair}
+use Rattle.command_rooms.specs.HandedWalk.{walk_of}
+use Rattle.command_rooms.specs.CommandOfWords.{command_in}
+use Rattle.command_walk.specs.WordsOfCommands.{task_at, task_for, HandsBack}
+use Rattle.command_rooms.proofs.CommandNumberLaws.{fits}
+use Rattle.command_walk.proofs.WalkCommandAndHeadlineLaws.{not-run, any-command, no-such-command, ends-usage}
 use Rattle.command_walk.proofs.WalkCommandAndHeadlineLaws.{ends-wanting, headline-of, ends-for, run-for, some-command}
 use Rattle.command_walk.proofs.WalkCommandAndHeadlineLaws.{tells-pair, tells-live, tells-live-pair}
 use Rattle.command_walk.proofs.top_call.walk_top.Goals as goal

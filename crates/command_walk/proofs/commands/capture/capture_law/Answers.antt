@@ -1,6 +1,0 @@
--- By the law of the frames of rows.
-use Rattle.command_walk.proofs.WalkCaptureAndFrameSumLaws.{taken-delivered}
-use Rattle.command_walk.proofs.commands.capture.capture_law.Goals as goal
-
-pub returns : goal.returns
-returns c = taken-delivered

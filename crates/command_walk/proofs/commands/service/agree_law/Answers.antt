@@ -1,6 +1,0 @@
--- `service` beside `fates` and `walk`.
-use Rattle.command_walk.proofs.ServiceBesideFatesLaws.{service-agrees}
-use Rattle.command_walk.proofs.commands.service.agree_law.Goals as goal
-
-pub returns : goal.returns
-returns c = service-agrees
