@@ -16,7 +16,7 @@ use Rattle.check_crc32.specs.Crc32.{BitOrder, most_first, least_first, ordered, 
 use Rattle.std.specs.Int.{to_le_bytes, w32, w64}
 use Rattle.check_remainder.specs.Remainder.{remainder, add_front, divide}
 use Rattle.check_remainder.proofs.LongDivisionRemainderLaws.{length-remainder, remainder-append_at}
-use Rattle.check_crc32.specs.Register.{bits_in, register_bits, IsTables, RegisterStands}
+use Rattle.check_crc32.specs.Register.{bits_in, register_bits, IsTable, IsTables, RegisterStands}
 use Rattle.check_crc32.proofs.CheckBitsAndRemainderLaws.{length-crc32, add_front-zeros, remainder-append_long}
 use Rattle.check_crc32.proofs.CheckBitsAndRemainderLaws.{remainder-parts, seed, rest_of-seed}
 use Rattle.std.specs.List.{list_all, range_with_len}
@@ -322,16 +322,20 @@ after_more order octets more =
     ∙ ap (λ l. seed ++ l) (sym (bits_in-append order octets more)))
     ∙ sym (rest_of-seed (bits_in order (octets ++ more)))
 
-pub stands_octet : (order : BitOrder) (tables : List (List ℕ)) (octets : List ℕ) (register octet : ℕ)
-    → register < 2 ^ 32 → octet < 256 → IsTables order tables → RegisterStands order octets register
+pub stands_octet : (order : BitOrder) (table octets : List ℕ) (register octet : ℕ)
+    → register < 2 ^ 32 → octet < 256 → IsTable order table → RegisterStands order octets register
     → RegisterStands order (octets ++ octet ∷ [])
-    (bit_xor (register / 2 ^ 8) (entry_of tables 0 (bit_xor (register % 2 ^ 8) octet)))
-stands_octet order tables octets register octet h small are s = record {
+    (bit_xor (register / 2 ^ 8) (slice_index table (bit_xor (register % 2 ^ 8) octet)))
+stands_octet order table octets register octet h small is s = record {
   left =
-      octet_step order (slice_index_or tables 0 []) (seed ++ bits_in order octets) register octet h small
-      (λ o. are.entry 0 o (omega arith)) (s.left ∙ rest_of-seed (bits_in order octets))
+      octet_step order table (seed ++ bits_in order octets) register octet h small is.entry
+      (s.left ∙ rest_of-seed (bits_in order octets))
       ∙ after_more order octets (octet ∷ []);
 }
+
+pub first_of : (order : BitOrder) (tables : List (List ℕ)) → IsTables order tables
+    → IsTable order (slice_index_or tables 0 [])
+first_of order tables are = record { entry = λ octet. are.entry 0 octet (omega arith) }
 
 pub stands_word : (order : BitOrder) (tables : List (List ℕ)) (octets : List ℕ) (register word : ℕ)
     → register < 2 ^ 32 → IsTables order tables → RegisterStands order octets register
@@ -387,19 +391,18 @@ record AreMade (order : BitOrder) (tables : List (List ℕ)) : Type 0 where
   pub next : map (λ k. map (zeros_more (slice_index_or tables 0 [])) (slice_index_or tables k [])) (range_with_len 0 7)
       ≡ map (λ k. slice_index_or tables k []) (range_with_len 1 7)
 
-first_is : (order : BitOrder) (tables : List (List ℕ)) → AreMade order tables
-    → IsTableOf order 0 (slice_index_or tables 0 [])
-first_is order tables made =
-    let table : List ℕ = slice_index_or tables 0 [] in
+first_is : (order : BitOrder) (table : List ℕ) → map (register_bits order) table
+    ≡ map (λ o. remainder crc32 (bits 8 (ordered order o))) (range_with_len 0 256) → IsTableOf order 0 table
+first_is order table made =
     let left : ℕ → List Bool = λ o. remainder crc32 (bits 8 (ordered order o)) in
     let whole : length table ≡ 256 =
-    sym (length-map table (register_bits order)) ∙ ap length made.first ∙ length-map-range_with_len left 0 256 in
+    sym (length-map table (register_bits order)) ∙ ap length made ∙ length-map-range_with_len left 0 256 in
     record {
       size = whole;
       entry = λ octet h.
           let inside : octet < length table = omega arith in
           sym (get_or-map (register_bits order) table octet 0 [] inside)
-          ∙ ap (λ l. get_or l octet []) made.first
+          ∙ ap (λ l. get_or l octet []) made
           ∙ get_or-map-range_with_len left 0 256 octet octet [] h (omega arith)
           ∙ ap (remainder crc32) (sym (append-nil (bits 8 (ordered order octet))));
     }
@@ -436,7 +439,7 @@ next_is order tables k made h is =
           (sym (xor_zero_r (entry % 2 ^ 8)))
           ∙ octet_step order first (begun ++ zeros) entry 0
           (entry_below order tables k octet made (omega arith) inside) (omega arith)
-          (first_is order tables made).entry (is.entry octet small)
+          (first_is order first made.first).entry (is.entry octet small)
           ∙ ap (remainder crc32)
           (append_assoc begun zeros (bits_in order (0 ∷ []))
           ∙ ap (λ l. begun ++ l)
@@ -446,7 +449,7 @@ next_is order tables k made h is =
 
 each_is : (order : BitOrder) (tables : List (List ℕ)) (k : ℕ) → AreMade order tables → k < 8
     → IsTableOf order k (slice_index_or tables k [])
-each_is order tables zero made h = first_is order tables made
+each_is order tables zero made h = first_is order (slice_index_or tables 0 []) made.first
 each_is order tables (suc k) made h = next_is order tables k made (omega arith)
     (each_is order tables k made (omega arith))
 
@@ -454,9 +457,9 @@ are_tables : (order : BitOrder) (tables : List (List ℕ)) → AreMade order tab
 are_tables order tables made = record { entry = λ k octet h. (each_is order tables k made h).entry octet }
 
 -- ---- the two that are written out
-pub most_first_is : IsTables most_first MOST_FIRST
+pub most_first_is : IsTable most_first MOST_FIRST
 unfolding bits number_behind add_front divide
-most_first_is = are_tables most_first MOST_FIRST record { count = refl; below = refl; first = refl; next = refl }
+most_first_is = record { entry = (first_is most_first MOST_FIRST refl).entry }
 
 pub least_first_is : IsTables least_first LEAST_FIRST
 unfolding bits number_behind add_front divide

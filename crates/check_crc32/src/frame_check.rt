@@ -1,8 +1,8 @@
-//! The check, eight octets at a time, with a table for each of their places.
+//! The check of Ethernet, eight octets at a time, with a table for each of their places; and that of GFP, octet by octet.
 ghost use Rattle.std.specs.Prelude.{◌≡◌, ℕ, ◌+◌, ◌≤◌, List, ◌++◌, [], ◌∷◌, length, take};
 ghost use Rattle.std.specs.Int.{to_le_bytes, w64};
 ghost use Rattle.check_crc32.specs.Crc32.{BitOrder, least_first, fcs_of, fcs_in};
-ghost use Rattle.check_crc32.specs.Register.{RegisterStands, IsTables};
+ghost use Rattle.check_crc32.specs.Register.{RegisterStands, IsTable, IsTables};
 
 use crate::crc32_tables::{LEAST_FIRST, MOST_FIRST};
 
@@ -11,7 +11,7 @@ use crate::crc32_tables::{LEAST_FIRST, MOST_FIRST};
 pub fn fcs(octets: &[u8]) -> [u8; 4]
     ensures { result ≡ fcs_of octets.now }
 {
-    inverted(after_all(&MOST_FIRST, octets))
+    inverted(after_octets(&MOST_FIRST, u32::MAX, octets))
 }
 
 /// The frame check sequence of Ethernet (IEEE 802.3): the least significant bit of each octet is first.
@@ -19,7 +19,7 @@ pub fn fcs(octets: &[u8]) -> [u8; 4]
 pub fn ethernet_fcs(octets: &[u8]) -> [u8; 4]
     ensures { result ≡ fcs_in least_first octets.now }
 {
-    inverted(after_all(&LEAST_FIRST, octets))
+    inverted(after_words(&LEAST_FIRST, octets))
 }
 
 /// The check that a register makes.
@@ -31,8 +31,8 @@ fn inverted(register: u32) -> [u8; 4]
     (register ^ u32::MAX).to_le_bytes()
 }
 
-/// The register after octets.
-fn after_all(tables: &[[u32; 256]; 8], octets: &[u8]) -> u32
+/// The register after octets, eight at a time.
+fn after_words(tables: &[[u32; 256]; 8], octets: &[u8]) -> u32
     ensures { (order : BitOrder) → IsTables order tables.now →
         RegisterStands order octets.now result }
 {
@@ -41,8 +41,17 @@ fn after_all(tables: &[[u32; 256]; 8], octets: &[u8]) -> u32
     for i in 0..words {
         register = after_word(tables, register, word_at(octets, 8 * i));
     }
-    for i in 8 * words..octets.len() {
-        register = after_octet(tables, register, octets[i]);
+    after_octets(&tables[0], register, &octets[8 * words..])
+}
+
+/// The register after more octets, one by one.
+fn after_octets(table: &[u32; 256], begun: u32, octets: &[u8]) -> u32
+    ensures { (order : BitOrder) (before : List ℕ) → IsTable order table.now →
+        RegisterStands order before begun → RegisterStands order (before ++ octets.now) result }
+{
+    let mut register = begun;
+    for i in 0..octets.len() {
+        register = after_octet(table, register, octets[i]);
     }
     register
 }
@@ -84,9 +93,9 @@ fn after_word(tables: &[[u32; 256]; 8], register: u32, word: u64) -> u32
 
 /// The register after one more octet.
 #[inline]
-fn after_octet(tables: &[[u32; 256]; 8], register: u32, octet: u8) -> u32
-    ensures { (order : BitOrder) (octets : List ℕ) → IsTables order tables.now →
+fn after_octet(table: &[u32; 256], register: u32, octet: u8) -> u32
+    ensures { (order : BitOrder) (octets : List ℕ) → IsTable order table.now →
         RegisterStands order octets register → RegisterStands order (octets ++ octet ∷ []) result }
 {
-    (register >> 8) ^ tables[0][((register % 256) as u8 ^ octet) as usize]
+    (register >> 8) ^ table[((register % 256) as u8 ^ octet) as usize]
 }
