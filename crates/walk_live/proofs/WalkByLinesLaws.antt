@@ -33,6 +33,7 @@ use Rattle.text_live.proofs.LiveScriptSayingsLaws.{lines_agree, more_fine, nothi
 use Rattle.command_parts.specs.declared.stop_and_status.Stop.{Stop}
 use Rattle.command_parts.specs.declared.stop_and_status.Stop.TheVariants as stop
 use Rattle.command_parts.specs.Common.{IsRefusedAs}
+use Rattle.walk_engine.specs.Common.{LiveStands, walking_counts}
 use Rattle.walk_live.specs.declared.answered_walk.AnsweredWalk.{AnsweredWalk}
 use Rattle.walk_live.specs.declared.asked.Asked.{Asked}
 use Rattle.walk_live.specs.Notes.{live_fault_text, live_why}
@@ -244,11 +245,15 @@ live_line reader now ls line says has made read own =
     }
 
 -- ---- what a walk answers
-pub sound_leg : (walk : AnsweredWalk) (asked : Asked) (ls : List (List ℕ)) → HasAnsweredLines walk asked ls →
-    IsLegOf (config_in ls) (sayings ls) (leg_in ls)
-sound_leg walk asked ls has =
-    subst (IsLegOf (config_in ls) (sayings ls)) (sym has.leg)
-    (leg-own (config_in ls) (sayings ls) has.is.network has.is.well)
+pub total_is : (walk : AnsweredWalk) (asked : Asked) (ls : List (List ℕ)) (totals : Totals) →
+    HasAnsweredLines walk asked ls →
+    ((leg : Leg) → LiveStands leg walk.walk → totals ≡ totals_of leg (walking_counts walk.walk)) →
+    totals ≡ totals_of (leg_in ls) (live_counts (leg_in ls) (sayings ls))
+total_is walk asked ls totals has is =
+    let leg : Leg = leg_in ls in
+    let own = subst (IsLegOf (config_in ls) (sayings ls)) (sym has.leg)
+    (leg-own (config_in ls) (sayings ls) has.is.network has.is.well) in
+    is leg (has.is.walks.stands leg own) ∙ ap (totals_of leg) (has.is.walks.counts leg own)
 
 module _ (reader : LiveReader) (says : LiveLine) (ls : List (List ℕ)) (line : List ℕ) (is : IsSaidBehind reader says ls line)
   where

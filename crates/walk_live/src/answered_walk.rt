@@ -5,14 +5,13 @@ ghost use Rattle.law_model.specs.Common.{AppendsPart, IsNetwork, Leg, most_lines
 ghost use Rattle.law_model.specs.declared.script_types.Config.{Config};
 ghost use Rattle.text_report.specs.ReportLines.{refused_text};
 ghost use Rattle.text_got.specs.TextSoFar.{Holds};
-ghost use Rattle.law_walk.specs.Common.{totals_of};
-ghost use Rattle.law_live.specs.Common.{IsWellSaid, Saying, cuts, lands, live_counts, mends, now_text, passes};
+ghost use Rattle.law_live.specs.Common.{IsWellSaid, Saying, lands, now_text, passes};
 ghost use Rattle.terminal_group.specs.Item.{kind_of};
 ghost use Rattle.walk_engine.specs.walk_core.LiveWalking.{IsLive, LiveFinishes, LiveRounds, LiveStands};
 ghost use Rattle.walk_engine.specs.walk_core.LiveWalking.{walking_counts};
 ghost use Rattle.law_walk.specs.DeliveredFrames.{delivered_since};
 ghost use Rattle.walk_engine.specs.walk_core.WayParts.{waiting_in, windows_in};
-ghost use Rattle.walk_live.specs.Answered.{Answers, AnswersPart, IsAnswered, IsLegOf, WalksAs};
+ghost use Rattle.walk_live.specs.Answered.{Answers, AnswersPart, IsAnswered, WalksAs};
 ghost use Rattle.walk_live.specs.PassingRounds.{CanPass, CanRound, IsOtherwise, round_text, rounds_text, steps_text};
 ghost use Rattle.walk_live.specs.LiveReplies.{queue_lines, step_line};
 ghost use Rattle.walk_live.specs.PassingRounds.{AreStates, HasStates};
@@ -24,7 +23,7 @@ use crate::asked::Asked;
 use crate::member_lines::{MEMBERS_ROOM, lines_of_members, states_of};
 use crate::number_lines::{tell_now, tell_number};
 use crate::timed_lines::{TimedLines, Whose};
-use law_model::{Config, MOST_LINES, Refusal, SourceState, Totals};
+use law_model::{Config, MOST_LINES, Refusal, SourceState};
 use octet_io::{ByteSink, Failed};
 use std::alloc::{AllocError, Global};
 use terminal_group::ItemRef;
@@ -36,7 +35,7 @@ use walk_engine::walk_core::{LiveWalk, is_step};
 /// A walk that is told what happens. What it answers waits in a block, or goes out where it is much.
 #[derive(Drop)]
 pub(crate) struct AnsweredWalk {
-    walk: LiveWalk,
+    pub(crate) walk: LiveWalk,
     /// How many lines the group has.
     lines: u8,
     /// How many items have landed.
@@ -93,28 +92,6 @@ impl AnsweredWalk {
         }
     }
 
-    /// Cuts a line, of which nothing is answered.
-    pub(crate) fn cut(&mut self, line: u8)
-        requires { (asked : Asked) × (config : Config) × (said : List Saying)
-            × IsAnswered self.old asked config said × IsWellSaid config (said ++ cuts line ∷ []) }
-        ensures { (asked : Asked) (config : Config) (said : List Saying) →
-            IsAnswered self.old asked config said → IsWellSaid config (said ++ cuts line ∷ []) →
-            IsAnswered self.new asked config (said ++ cuts line ∷ []) }
-    {
-        self.walk.cut(line);
-    }
-
-    /// Mends a line, of which nothing is answered.
-    pub(crate) fn mend(&mut self, line: u8)
-        requires { (asked : Asked) × (config : Config) × (said : List Saying)
-            × IsAnswered self.old asked config said × IsWellSaid config (said ++ mends line ∷ []) }
-        ensures { (asked : Asked) (config : Config) (said : List Saying) →
-            IsAnswered self.old asked config said → IsWellSaid config (said ++ mends line ∷ []) →
-            IsAnswered self.new asked config (said ++ mends line ∷ []) }
-    {
-        self.walk.mend(line);
-    }
-
     /// Lets ticks pass: rounds are made until so many more ticks are. Answers the decision steps of each round where
     /// they are asked, then the frames that come out with the ticks made by then, then how many frames wait where that
     /// is asked, and last how many ticks have passed.
@@ -142,15 +119,6 @@ impl AnsweredWalk {
             Ok(()) => self.end_pass(until, block, out),
             Err(Failed) => Err(Failed),
         }
-    }
-
-    /// What came of all that was said, in numbers.
-    pub(crate) fn totals(&self) -> Totals
-        ensures { (asked : Asked) (config : Config) (said : List Saying) (leg : Leg) →
-            IsAnswered self.now asked config said → IsLegOf config said leg →
-            result ≡ totals_of leg (live_counts leg said) }
-    {
-        self.walk.totals()
     }
 
     /// Makes rounds until so many ticks are made, and answers each.

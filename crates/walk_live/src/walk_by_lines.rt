@@ -97,11 +97,11 @@ impl Answerer for AnsweredWalk {
             LiveLine::Add(line) => self.land(ItemRef::Add(line), block, out),
             LiveLine::Remove(line) => self.land(ItemRef::Remove(line), block, out),
             LiveLine::Cut(line) => {
-                self.cut(line);
+                self.walk.cut(line);
                 Ok(())
             }
             LiveLine::Mend(line) => {
-                self.mend(line);
+                self.walk.mend(line);
                 Ok(())
             }
             LiveLine::Pass(ticks) => self.pass(ticks, block, out),
@@ -109,7 +109,7 @@ impl Answerer for AnsweredWalk {
     }
 
     fn say_last<K: ByteSink>(&self, block: &mut TextBlock, out: &mut K) -> Result<(), Failed> {
-        let totals = self.totals();
+        let totals = self.walk.totals();
         tell_totals(&totals, block, out)
     }
 }

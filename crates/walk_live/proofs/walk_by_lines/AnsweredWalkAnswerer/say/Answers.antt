@@ -4,7 +4,9 @@ use Rattle.law_model.specs.declared.script_types.ItemKind.TheVariants as item_ki
 use Rattle.law_live.specs.Common.{cuts, lands, leg_said, mends}
 use Rattle.text_live.specs.LiveLines.{happens}
 use Rattle.text_live.specs.LiveReaderStands.{frame_of, told_line}
-use Rattle.walk_live.proofs.AnsweredWalkAndSayingLaws.{cut_answered, mend_answered}
+use Rattle.walk_live.proofs.AnsweredWalkAndSayingLaws.{cut-after, cut-answered, cut-few, cut-left, cut-line, now-live}
+use Rattle.walk_live.proofs.AnsweredWalkAndSayingLaws.{cut_answered, mend-answered, mend-cut, mend-line, mend_answered}
+use Rattle.walk_live.specs.declared.answered_walk.AnsweredWalk.{AnsweredWalk}
 use Rattle.walk_live.proofs.WalkByLinesLaws.{can_say_as, line_answered, line_part, never_quiet, quiet_saying}
 use Rattle.walk_live.proofs.WalkByLinesLaws.{same_saying}
 use Rattle.walk_live.proofs.walk_by_lines.AnsweredWalkAnswerer.say.Goals as goal
@@ -71,34 +73,52 @@ returns-in-Pass g c =
 pub returns-in-Cut-clause-answers : goal.returns-in-Cut-clause-answers
 returns-in-Cut-clause-answers g c asked ls line has is =
     let told = ap (told_line (frame_of c.args.reader.now)) c.in-Cut.is in
+    let next : AnsweredWalk = record c.args.self.now { walk = c.cut.new.self } in
+    let e = c.cut.ensures in
     line_answered c.args.reader.now c.args.says ls line is g.K.ByteSink.written g.K.ByteSink.faults
-    c.args.out.now c.args.out.now c.args.block.now c.args.block.now c.args.self.now c.cut.new.self asked (Ok tt)
+    c.args.out.now c.args.out.now c.args.block.now c.args.block.now c.args.self.now next asked (Ok tt)
     (cuts c.in-Cut.line) (same_saying c.args.reader.now c.args.says ls line is (cuts c.in-Cut.line) told) has
     (λ asked config said was well. quiet_saying g.K.ByteSink.written g.K.ByteSink.faults c.args.out.now c.args.block.now
-    c.cut.new.self asked config said (cuts c.in-Cut.line) (c.cut.ensures asked config said was well)
+    next asked config said (cuts c.in-Cut.line)
+    (cut-answered c.args.self.now asked config said was c.in-Cut.line well c.cut.new.self e.stands e.counts e.windows)
     (cut_answered asked (leg_said config (said ++ cuts c.in-Cut.line ∷ [])) said c.in-Cut.line))
 
 pub returns-in-Mend-clause-answers : goal.returns-in-Mend-clause-answers
 returns-in-Mend-clause-answers g c asked ls line has is =
     let told = ap (told_line (frame_of c.args.reader.now)) c.in-Mend.is in
+    let next : AnsweredWalk = record c.args.self.now { walk = c.mend.new.self } in
+    let e = c.mend.ensures in
     line_answered c.args.reader.now c.args.says ls line is g.K.ByteSink.written g.K.ByteSink.faults
-    c.args.out.now c.args.out.now c.args.block.now c.args.block.now c.args.self.now c.mend.new.self asked (Ok tt)
+    c.args.out.now c.args.out.now c.args.block.now c.args.block.now c.args.self.now next asked (Ok tt)
     (mends c.in-Mend.line) (same_saying c.args.reader.now c.args.says ls line is (mends c.in-Mend.line) told) has
     (λ asked config said was well. quiet_saying g.K.ByteSink.written g.K.ByteSink.faults c.args.out.now c.args.block.now
-    c.mend.new.self asked config said (mends c.in-Mend.line) (c.mend.ensures asked config said was well)
+    next asked config said (mends c.in-Mend.line)
+    (mend-answered c.args.self.now asked config said was c.in-Mend.line well c.mend.new.self e.stands e.counts e.windows)
     (mend_answered asked (leg_said config (said ++ mends c.in-Mend.line ∷ [])) said c.in-Mend.line))
 
 pub cut-requires : goal.cut-requires
 cut-requires g c =
     let (asked, ls, line, has, is) = c.requires in
-    can_say_as c.args.reader.now c.args.says ls line is c.args.self.now asked has _
-    (ap (told_line (frame_of c.args.reader.now)) c.in-Cut.is)
+    let (told, config, said, was, well) = can_say_as c.args.reader.now c.args.says ls line is c.args.self.now asked has _
+    (ap (told_line (frame_of c.args.reader.now)) c.in-Cut.is) in
+    record {
+      line = cut-line c.args.self.now told config said was c.in-Cut.line well;
+      live = now-live c.args.self.now told config said was;
+      few = cut-few c.args.self.now told config said was c.in-Cut.line well;
+      after = cut-after c.args.self.now told config said was c.in-Cut.line well;
+      left = cut-left c.args.self.now told config said was c.in-Cut.line well;
+    }
 
 pub mend-requires : goal.mend-requires
 mend-requires g c =
     let (asked, ls, line, has, is) = c.requires in
-    can_say_as c.args.reader.now c.args.says ls line is c.args.self.now asked has _
-    (ap (told_line (frame_of c.args.reader.now)) c.in-Mend.is)
+    let (told, config, said, was, well) = can_say_as c.args.reader.now c.args.says ls line is c.args.self.now asked has _
+    (ap (told_line (frame_of c.args.reader.now)) c.in-Mend.is) in
+    record {
+      line = mend-line c.args.self.now told config said was c.in-Mend.line well;
+      live = now-live c.args.self.now told config said was;
+      cut = mend-cut c.args.self.now told config said was c.in-Mend.line well;
+    }
 
 pub pass-requires : goal.pass-requires
 pass-requires g c =
