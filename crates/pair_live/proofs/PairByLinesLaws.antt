@@ -15,10 +15,12 @@ use Rattle.text_scripts.specs.declared.script_read.script_draft.Draft.{Draft}
 use Rattle.text_scripts.specs.declared.script_read.script_fault.ScriptFault.TheVariants as script
 use Rattle.text_scripts.specs.script_read.Script.{missing_line}
 use Rattle.text_scripts.specs.script_read.Statements.{at_first}
+use Rattle.law_walk.specs.Common.{totals_of}
+use Rattle.law_pair.specs.Common.{counts_on}
 use Rattle.law_pair.specs.declared.pair_events.Way.{Way}
 use Rattle.law_pair.specs.declared.pair_events.Way.TheVariants.{There, Back}
 use Rattle.law_live.specs.Common.{IsPairSaid, PairSaying, cuts_on, mends_on, pair_answers_from, script_on}
-use Rattle.law_live.specs.Common.{total_way_text, totals_on}
+use Rattle.law_live.specs.Common.{leg_on, total_way_text}
 use Rattle.law_live.proofs.BothWaysSharedLaws.{pair-own, said-pair}
 use Rattle.octet_io.specs.declared.source_and_sink.Failed.{Failed}
 use Rattle.text_got.specs.TextSoFar.{Holds}
@@ -37,6 +39,7 @@ use Rattle.walk_live.specs.LiveTexts.{FaultNote}
 use Rattle.walk_live.specs.Answering.{AnswersLine, IsLive, IsQuiet, StopsReader}
 use Rattle.walk_live.proofs.LiveTalkerLaws.{begun_some, none_some, nothing_added, refused_as, short_as}
 use Rattle.walk_live.proofs.WalkByLinesLaws.{own_limits}
+use Rattle.pair_engine.specs.LivePairs.{PairLives, walking_counts}
 use Rattle.pair_live.specs.declared.answered_pair.AnsweredPair.{AnsweredPair}
 use Rattle.pair_live.specs.declared.live_pair_fault.LivePairFault.{LivePairFault}
 use Rattle.pair_live.specs.declared.live_pair_fault.LivePairFault.TheVariants as text_wrong
@@ -273,9 +276,8 @@ live_line reader now ls line says has made read own =
 -- it stands for the two scripts of which the lines say all
 abbrev IsTotal : AnsweredPair → Way → Totals → Type 0
 IsTotal pair way totals =
-    (asked : Asked) (there back : Config) (said : List PairSaying) (one other : Script) →
-    IsPairAnswered pair asked there back said → ArePairOf there back said one other →
-    totals ≡ totals_on one other said way
+    (one other : Script) → PairLives one other pair.pair →
+    totals ≡ totals_of (leg_on one other way) (counts_on (walking_counts pair.pair) way)
 
 pub last_is : (pair : AnsweredPair) (asked : Asked) (ls : List (List ℕ)) (there back : Totals) →
     HasAnsweredLines pair asked ls → IsTotal pair There there → IsTotal pair Back back →
@@ -288,9 +290,13 @@ last_is pair asked ls there back has one other =
       pair = said-pair (there_config s) (back_config s) said has.network has.well;
       agrees = pair-own (there_config s) (back_config s) said;
     } in
+    let lives = has.walks.lives pairs.there pairs.back are in
+    let counts = has.walks.counts pairs.there pairs.back are in
     ap₂ (λ (t u : Totals). total_way_text There t ++ total_way_text Back u)
-    (one asked (there_config s) (back_config s) said pairs.there pairs.back has are)
-    (other asked (there_config s) (back_config s) said pairs.there pairs.back has are)
+    (one pairs.there pairs.back lives
+    ∙ ap (λ s. totals_of (leg_on pairs.there pairs.back There) (counts_on s There)) counts)
+    (other pairs.there pairs.back lives
+    ∙ ap (λ s. totals_of (leg_on pairs.there pairs.back Back) (counts_on s Back)) counts)
 
 module _ (reader : LivePairReader) (says : LivePairLine) (ls : List (List ℕ)) (line : List ℕ)
     (is : IsSaidBehind reader says ls line)

@@ -7,8 +7,8 @@ ghost use Rattle.law_pair.specs.Common.{counts_on, pair_plan, pair_step};
 ghost use Rattle.law_pair.specs.declared.pair_events.Way.{Way};
 ghost use Rattle.law_pair.specs.declared.pair_events.Way.TheVariants.{There as THERE, Back as BACK};
 ghost use Rattle.law_pair.specs.declared.pair_events.PairEvent.TheVariants.{Take};
-ghost use Rattle.law_live.specs.Common.{IsPairNetwork, IsPairSaid, PairSaying, both_pass, cuts_on, lands_on, leg_on};
-ghost use Rattle.law_live.specs.Common.{mends_on, now_text, totals_on, turn_both};
+ghost use Rattle.law_live.specs.Common.{IsPairNetwork, IsPairSaid, PairSaying, both_pass, lands_on, leg_on};
+ghost use Rattle.law_live.specs.Common.{now_text, turn_both};
 ghost use Rattle.text_got.specs.TextSoFar.{Holds};
 ghost use Rattle.terminal_group.specs.Item.{kind_of};
 ghost use Rattle.walk_engine.specs.walk_core.WayParts.{waiting_in};
@@ -16,14 +16,14 @@ ghost use Rattle.walk_live.specs.PassingRounds.{AreStates, HasStates};
 ghost use Rattle.walk_live.specs.declared.asked.Asked.{Asked};
 ghost use Rattle.walk_live.specs.declared.asked.Asked.TheVariants.{Members, Steps};
 ghost use Rattle.pair_engine.specs.LivePairs.{CanTurn, GoesOn, IsLivePair, PairLives, SameWindows, walking_counts};
-ghost use Rattle.pair_live.specs.PairAnswered.{ArePairOf, CountsOn, IsPairAnswered, PairAnswers, PairAnswersPart};
+ghost use Rattle.pair_live.specs.PairAnswered.{CountsOn, IsPairAnswered, PairAnswers, PairAnswersPart};
 ghost use Rattle.pair_live.specs.PairAnswered.{WalksAsPair, numbers_on};
 ghost use Rattle.pair_live.specs.PairPassing.{CanPassBoth, HasLinesOf, IsOtherPair, both_frames_text, both_steps_text};
 ghost use Rattle.pair_live.specs.PairPassing.{finish_both, frames_text_on, steps_text_on, turn_text, turns_text};
 ghost use Rattle.pair_live.specs.PairReplies.{queue_lines_on, step_line_on};
 
 use crate::way_lines::{member_words, tell_queue, tell_refused, tell_step, whose};
-use law_model::{Config, MOST_LINES, SourceState, Totals};
+use law_model::{Config, MOST_LINES, SourceState};
 use octet_io::{ByteSink, Failed};
 use pair_engine::{LivePair, Way};
 use std::alloc::{AllocError, Global};
@@ -46,7 +46,7 @@ pub(crate) struct WayNumbers {
 /// A pair that is told what happens. What it answers waits in a block, or goes out where it is much.
 #[derive(Drop)]
 pub(crate) struct AnsweredPair {
-    pair: LivePair,
+    pub(crate) pair: LivePair,
     there: WayNumbers,
     back: WayNumbers,
     /// What is told of decision steps and passes.
@@ -124,32 +124,6 @@ impl AnsweredPair {
         }
     }
 
-    /// Cuts a line of a way, of which nothing is answered.
-    pub(crate) fn cut(&mut self, way: Way, line: u8)
-        requires { (asked : Asked) × (there : Config) × (back : Config) × (said : List PairSaying)
-            × IsPairAnswered self.old asked there back said
-            × IsPairSaid there back (said ++ cuts_on way line ∷ []) }
-        ensures { (asked : Asked) (there back : Config) (said : List PairSaying) →
-            IsPairAnswered self.old asked there back said →
-            IsPairSaid there back (said ++ cuts_on way line ∷ []) →
-            IsPairAnswered self.new asked there back (said ++ cuts_on way line ∷ []) }
-    {
-        self.pair.cut(way, line);
-    }
-
-    /// Mends a line of a way, of which nothing is answered.
-    pub(crate) fn mend(&mut self, way: Way, line: u8)
-        requires { (asked : Asked) × (there : Config) × (back : Config) × (said : List PairSaying)
-            × IsPairAnswered self.old asked there back said
-            × IsPairSaid there back (said ++ mends_on way line ∷ []) }
-        ensures { (asked : Asked) (there back : Config) (said : List PairSaying) →
-            IsPairAnswered self.old asked there back said →
-            IsPairSaid there back (said ++ mends_on way line ∷ []) →
-            IsPairAnswered self.new asked there back (said ++ mends_on way line ∷ []) }
-    {
-        self.pair.mend(way, line);
-    }
-
     /// Lets ticks pass in both ways: rounds are made until so many more ticks are. Answers the decision steps of each
     /// round where they are asked, then the frames that come out with the ticks made by then, then how many frames of
     /// each way wait where that is asked, and last how many ticks have passed.
@@ -178,15 +152,6 @@ impl AnsweredPair {
             Ok(()) => self.end_pass(until, block, out),
             Err(Failed) => Err(Failed),
         }
-    }
-
-    /// What came of all that was said of a way, in numbers.
-    pub(crate) fn totals(&self, way: Way) -> Totals
-        ensures { (asked : Asked) (there back : Config) (said : List PairSaying)
-            (one other : Script) → IsPairAnswered self.now asked there back said →
-            ArePairOf there back said one other → result ≡ totals_on one other said way }
-    {
-        self.pair.totals(way)
     }
 
     /// Counts one item more of a way. Answers its number.

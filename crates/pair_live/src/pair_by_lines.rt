@@ -77,11 +77,11 @@ impl Answerer for AnsweredPair {
             LivePairLine::Add(way, line) => self.land(way, ItemRef::Add(line), block, out),
             LivePairLine::Remove(way, line) => self.land(way, ItemRef::Remove(line), block, out),
             LivePairLine::Cut(way, line) => {
-                self.cut(way, line);
+                self.pair.cut(way, line);
                 Ok(())
             }
             LivePairLine::Mend(way, line) => {
-                self.mend(way, line);
+                self.pair.mend(way, line);
                 Ok(())
             }
             LivePairLine::Pass(ticks) => self.pass(ticks, block, out),
@@ -89,8 +89,8 @@ impl Answerer for AnsweredPair {
     }
 
     fn say_last<K: ByteSink>(&self, block: &mut TextBlock, out: &mut K) -> Result<(), Failed> {
-        let there = self.totals(Way::There);
-        let back = self.totals(Way::Back);
+        let there = self.pair.totals(Way::There);
+        let back = self.pair.totals(Way::Back);
         tell_both_totals(&there, &back, block, out)
     }
 }

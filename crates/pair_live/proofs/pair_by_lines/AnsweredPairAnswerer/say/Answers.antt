@@ -6,6 +6,9 @@ use Rattle.pair_live.specs.PairLines.{happens}
 use Rattle.pair_live.specs.PairReaderStands.{pair_frame, told_pair_line}
 use Rattle.pair_live.proofs.PairByLinesLaws.{can_say_as, cut_answered, line_answered, line_part, mend_answered}
 use Rattle.pair_live.proofs.PairByLinesLaws.{never_quiet, quiet_saying, same_saying}
+use Rattle.pair_live.specs.declared.answered_pair.AnsweredPair.{AnsweredPair}
+use Rattle.pair_live.proofs.PairSayingLaws.{cut-after, cut-answered, cut-few, cut-left, cut-line, now-live}
+use Rattle.pair_live.proofs.PairSayingLaws.{mend-answered, mend-cut, mend-line}
 use Rattle.pair_live.proofs.pair_by_lines.AnsweredPairAnswerer.say.Goals as goal
 
 pub returns-in-Blank : goal.returns-in-Blank
@@ -70,34 +73,56 @@ returns-in-Pass g c =
 pub returns-in-Cut-clause-answers : goal.returns-in-Cut-clause-answers
 returns-in-Cut-clause-answers g c asked ls line has is =
     let told = ap (told_pair_line (pair_frame c.args.reader.now)) c.in-Cut.is in
+    let next : AnsweredPair = record c.args.self.now { pair = c.cut.new.self } in
+    let e = c.cut.ensures in
     line_answered c.args.reader.now c.args.says ls line is g.K.ByteSink.written g.K.ByteSink.faults
-    c.args.out.now c.args.out.now c.args.block.now c.args.block.now c.args.self.now c.cut.new.self asked (Ok tt)
+    c.args.out.now c.args.out.now c.args.block.now c.args.block.now c.args.self.now next asked (Ok tt)
     (cuts_on c.in-Cut.way c.in-Cut.line) (same_saying c.args.reader.now c.args.says ls line is (cuts_on c.in-Cut.way c.in-Cut.line) told) has
     (λ asked there back said was well. quiet_saying g.K.ByteSink.written g.K.ByteSink.faults c.args.out.now c.args.block.now
-    c.cut.new.self asked there back said (cuts_on c.in-Cut.way c.in-Cut.line) (c.cut.ensures asked there back said was well)
+    next asked there back said (cuts_on c.in-Cut.way c.in-Cut.line)
+    (cut-answered c.args.self.now asked there back said was c.in-Cut.way c.in-Cut.line well c.cut.new.self e.lives e.counts
+    e.windows e.beside)
     (cut_answered asked there back said c.in-Cut.way c.in-Cut.line))
 
 pub returns-in-Mend-clause-answers : goal.returns-in-Mend-clause-answers
 returns-in-Mend-clause-answers g c asked ls line has is =
     let told = ap (told_pair_line (pair_frame c.args.reader.now)) c.in-Mend.is in
+    let next : AnsweredPair = record c.args.self.now { pair = c.mend.new.self } in
+    let e = c.mend.ensures in
     line_answered c.args.reader.now c.args.says ls line is g.K.ByteSink.written g.K.ByteSink.faults
-    c.args.out.now c.args.out.now c.args.block.now c.args.block.now c.args.self.now c.mend.new.self asked (Ok tt)
+    c.args.out.now c.args.out.now c.args.block.now c.args.block.now c.args.self.now next asked (Ok tt)
     (mends_on c.in-Mend.way c.in-Mend.line) (same_saying c.args.reader.now c.args.says ls line is (mends_on c.in-Mend.way c.in-Mend.line) told) has
     (λ asked there back said was well. quiet_saying g.K.ByteSink.written g.K.ByteSink.faults c.args.out.now c.args.block.now
-    c.mend.new.self asked there back said (mends_on c.in-Mend.way c.in-Mend.line) (c.mend.ensures asked there back said was well)
+    next asked there back said (mends_on c.in-Mend.way c.in-Mend.line)
+    (mend-answered c.args.self.now asked there back said was c.in-Mend.way c.in-Mend.line well c.mend.new.self e.lives e.counts
+    e.windows e.beside)
     (mend_answered asked there back said c.in-Mend.way c.in-Mend.line))
 
 pub cut-requires : goal.cut-requires
 cut-requires g c =
     let (asked, ls, line, has, is) = c.requires in
+    let (told, there, back, said, was, well) =
     can_say_as c.args.reader.now c.args.says ls line is c.args.self.now asked has _
-    (ap (told_pair_line (pair_frame c.args.reader.now)) c.in-Cut.is)
+    (ap (told_pair_line (pair_frame c.args.reader.now)) c.in-Cut.is) in
+    record {
+      line = cut-line c.args.self.now told there back said was c.in-Cut.way c.in-Cut.line well;
+      lives = now-live c.args.self.now told there back said was;
+      few = cut-few c.args.self.now told there back said was c.in-Cut.way c.in-Cut.line well;
+      after = cut-after c.args.self.now told there back said was c.in-Cut.way c.in-Cut.line well;
+      left = cut-left c.args.self.now told there back said was c.in-Cut.way c.in-Cut.line well;
+    }
 
 pub mend-requires : goal.mend-requires
 mend-requires g c =
     let (asked, ls, line, has, is) = c.requires in
+    let (told, there, back, said, was, well) =
     can_say_as c.args.reader.now c.args.says ls line is c.args.self.now asked has _
-    (ap (told_pair_line (pair_frame c.args.reader.now)) c.in-Mend.is)
+    (ap (told_pair_line (pair_frame c.args.reader.now)) c.in-Mend.is) in
+    record {
+      line = mend-line c.args.self.now told there back said was c.in-Mend.way c.in-Mend.line well;
+      lives = now-live c.args.self.now told there back said was;
+      cut = mend-cut c.args.self.now told there back said was c.in-Mend.way c.in-Mend.line well;
+    }
 
 pub pass-requires : goal.pass-requires
 pass-requires g c =
