@@ -121,7 +121,7 @@ impl LineWorker {
         if self.core.ended() {
             return Burst::Done;
         }
-        self.raised.clear();
+        self.raised.alarms.clear();
         let first = self.carry();
         if first == Burst::Moved {
             self.carry_on();

@@ -74,15 +74,6 @@ impl Raised {
         }
     }
 
-    /// Forgets the alarms of the burst before.
-    pub(crate) fn clear(&mut self)
-        ensures failed { self.new.failed ≡ self.old.failed }
-        ensures place { self.new.place ≡ self.old.place }
-        ensures alarms { self.new.alarms.items ≡ [] }
-    {
-        self.alarms.clear();
-    }
-
     /// Takes note of the cell of a carry, if it gave one.
     pub(crate) fn note(&mut self, line: u8, carry: Option<CellSign>)
         requires { length self.old.alarms.items < 16 }

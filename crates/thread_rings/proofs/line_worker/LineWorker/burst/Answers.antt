@@ -39,14 +39,14 @@ returns-then-eq-clause-alarms g c = λ open_ small.
     let before = raised_by c.args.self.now in
     let few = sent-few c.carry_on.new.self in
     sym (noted.alarms (omega (arith, small, few)) before
-    (ap (λ l. before ++ l) c.clear.ensures.alarms ∙ append-nil before))
+    (ap (λ l. before ++ l) c.clear.ensures ∙ append-nil before))
 
 pub returns-else-eq-clause-alarms : goal.returns-else-eq-clause-alarms
 returns-else-eq-clause-alarms g c = λ open_ small.
     let before = raised_by c.args.self.now in
     let few = sent-few c.carry-first.new.self in
     sym (c.carry-first.ensures.noted.alarms (omega (arith, small, few)) before
-    (ap (λ l. before ++ l) c.clear.ensures.alarms ∙ append-nil before))
+    (ap (λ l. before ++ l) c.clear.ensures ∙ append-nil before))
 
 pub returns-else-eq-clause-still : goal.returns-else-eq-clause-still
 returns-else-eq-clause-still g c = λ done.
