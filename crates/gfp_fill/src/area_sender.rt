@@ -115,17 +115,6 @@ impl AreaSender {
         n
     }
 
-    /// Scrambles the next octets of the area where they lie: with this they are written.
-    #[inline]
-    pub(crate) fn send_octets(&mut self, octets: &mut [u8])
-        requires { head_of self.old ≡ [] }
-        ensures { (rest : List ℕ) (areas : List (List ℕ)) (place : ℕ) →
-            StandsIn self.old (octets.old ++ rest) areas place →
-            HasWrittenIn self.new rest areas place octets.new }
-    {
-        self.scrambler.area(octets);
-    }
-
     /// Writes as many octets of the frame that is being sent as aren't written and `out` has room for, and
     /// says how many.
     #[inline]
@@ -138,7 +127,7 @@ impl AreaSender {
             HasWrittenIn self.new frame.new areas place (take result out.new) }
     {
         let n = frame.send(out);
-        self.send_octets(&mut out[..n]);
+        self.scrambler.area(&mut out[..n]);
         n
     }
 
