@@ -1,5 +1,5 @@
 //! The containers on their way, oldest first, and what comes of the oldest.
-ghost use Rattle.std.specs.Prelude.{◌≡◌, ◌≢◌, ◌+◌, ◌-◌, ◌<◌, ◌==◌, min, [], ◌∷◌, ◌++◌, length, drop, slice_get};
+ghost use Rattle.std.specs.Prelude.{◌≡◌, ◌≢◌, ◌+◌, ◌-◌, ◌<◌, min, [], ◌∷◌, ◌++◌, length, drop, slice_get};
 ghost use Rattle.std.specs.Prelude.{Some, IfOk};
 ghost use Rattle.law_model.specs.Common.{Container, cells_of};
 ghost use Rattle.member_path.specs.path_delay.Carry.{carry_cells, carry_for};
@@ -17,7 +17,7 @@ use std::mem;
 /// never moved itself.
 #[derive(Drop)]
 pub(super) struct Store {
-    kept: HeapCircularBuffer<Box<HeldContainer>>,
+    pub(super) kept: HeapCircularBuffer<Box<HeldContainer>>,
     /// Boxes for the containers that fill the delay.
     spare: Vec<Box<HeldContainer>>,
 }
@@ -43,20 +43,6 @@ impl Store {
         let kept = HeapCircularBuffer::with_capacity(alloc, usize::from(delay))?;
         let spare = blank_boxes(alloc, u32::from(delay).min(total) as usize)?;
         Ok(Store { kept, spare })
-    }
-
-    /// Whether it holds as many containers as it can.
-    pub(super) fn is_full(&self) -> bool
-        ensures { result ≡ (length self.now.items == self.now.capacity) }
-    {
-        self.kept.is_full()
-    }
-
-    /// Whether it holds none.
-    pub(super) fn is_empty(&self) -> bool
-        ensures { result ≡ (length self.now.items == 0) }
-    {
-        self.kept.is_empty()
     }
 
     /// Puts a container after those on their way, in its box, and leaves a spare box for it.
@@ -126,7 +112,7 @@ impl Store {
             carry_cells result out.new.value ≡ cells_of fate x }
         ensures kept { result ≢ Some CellSign.Good → out.new.value ≡ out.old.value }
     {
-        if self.is_empty() {
+        if self.kept.is_empty() {
             return change(fate, container, out);
         }
         let mut oldest = self.take_oldest();

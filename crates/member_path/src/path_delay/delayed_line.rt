@@ -125,7 +125,7 @@ impl LineCore {
             × (fate ≡ carried self.now.windows (self.now.pushed - self.now.delay))) }
         ensures filling { IfNone result (self.now.pushed < self.now.delay) }
     {
-        if self.store.is_full() {
+        if self.store.kept.is_full() {
             Some(self.windows.at(self.pushed - u32::from(self.delay)))
         } else {
             None
