@@ -181,7 +181,7 @@ impl CountedSource {
         ensures kind { SameKind self.new.core self.old.core }
         ensures rest { SameCounts self.old self.new }
     {
-        let cell = take_needed(&mut self.inbox, self.core.needs_back().is_some());
+        let cell = self.inbox.take(self.core.needs_back().is_some());
         self.core.tick(cell, frame);
         cell
     }
@@ -209,12 +209,4 @@ fn give(core: &mut SourceCore, item: ItemRef) -> Option<Refusal>
         ItemRef::Add(line) => core.add(line).err().map(Refusal::Command),
         ItemRef::Remove(line) => core.remove(line).err().map(Refusal::Command),
     }
-}
-
-/// Gives the first return cell of the inbox, where it is needed.
-fn take_needed(inbox: &mut Inbox, needed: bool) -> Option<BackCell>
-    ensures cell { result ≡ cell_for needed inbox.old.cells }
-    ensures rest { inbox.new ≡ record inbox.old { cells = rest_for needed inbox.old.cells } }
-{
-    if needed { inbox.take() } else { None }
 }

@@ -1,7 +1,7 @@
 //! The return cells that have come to a group and that no decision step has taken.
 
-ghost use Rattle.std.specs.Prelude.{◌≡◌, ◌<◌, ◌≤◌, ◌+◌, ◌↔◌, [], length, drop, slice_get, IfOk, IsTrue};
-ghost use Rattle.terminal_group.specs.ReturnInbox.{is_lost_in, empty_inbox, with_come};
+ghost use Rattle.std.specs.Prelude.{◌≡◌, ◌<◌, ◌≤◌, ◌+◌, ◌↔◌, [], length, IfOk, IsTrue};
+ghost use Rattle.terminal_group.specs.ReturnInbox.{cell_for, is_lost_in, empty_inbox, rest_for, with_come};
 
 use circular_buffer::HeapCircularBuffer;
 use member_cells::BackCell;
@@ -70,12 +70,12 @@ impl Inbox {
         self.come += 1;
     }
 
-    /// Gives the first return cell, where there is one.
-    pub fn take(&mut self) -> Option<BackCell>
-        ensures cell { result ≡ slice_get self.old.cells 0 }
-        ensures rest { self.new ≡ record self.old { cells = drop 1 self.old.cells } }
+    /// Gives the first return cell, where it is needed.
+    pub fn take(&mut self, needed: bool) -> Option<BackCell>
+        ensures cell { result ≡ cell_for needed self.old.cells }
+        ensures rest { self.new ≡ record self.old { cells = rest_for needed self.old.cells } }
     {
-        self.cells.pop_front()
+        if needed { self.cells.pop_front() } else { None }
     }
 }
 

@@ -12,7 +12,7 @@ tick-requires-clause-back c =
     let f = c.self.inside in
     let none : missing_by (needed f.core) f.inbox.cells ≡ None = ap missing_from c.self.view_is ∙ c.requires.cell in
     let same = c.is_some.ensures ∙ ap is_some c.needs_back.ensures in
-    let t = ap is_some (c.take_needed-cell.ensures.cell ∙ ap (λ b. cell_for b f.inbox.cells) same)
+    let t = ap is_some (c.take-cell.ensures.cell ∙ ap (λ b. cell_for b f.inbox.cells) same)
     ∙ cell-for (needed f.core) f.inbox.cells none in
     (λ is. sym t ∙ is, λ is. t ∙ is)
 
