@@ -3,11 +3,9 @@
 ghost use Rattle.std.specs.Prelude.{◌≡◌, ℕ, ◌+◌, ◌%◌, ◌<◌, List, [], ◌∷◌, ◌++◌, Some, IfSome};
 ghost use Rattle.law_model.specs.Common.{Container, Cell, verdict, upper_of};
 ghost use Rattle.member_path.specs.cell_numbers.SignsAsCells.{cell_with, told_by};
-ghost use Rattle.member_path.specs.cell_numbers.Numbers.{IsOpen, is_open};
-ghost use Rattle.member_rows.specs.realign_rows.BegunNibbles.{packet_at};
+ghost use Rattle.member_path.specs.cell_numbers.Numbers.{IsOpen};
 ghost use Rattle.member_rows.specs.realign_rows.Line.{LineStands};
 
-use crate::lcas_packet::Packet;
 use crate::realign_rows::packet_nibbles::PacketNibbles;
 use check_nibbles::nibble_hi;
 use member_cells::{Container, HeldContainer};
@@ -17,8 +15,8 @@ use std::marker::Model;
 /// The numbers of a line, and the nibbles of its packets.
 #[derive(Drop)]
 pub(super) struct GatherLine {
-    numbers: LineNumbers,
-    nibbles: PacketNibbles,
+    pub(super) numbers: LineNumbers,
+    pub(super) nibbles: PacketNibbles,
 }
 
 impl Model for GatherLine {
@@ -57,13 +55,6 @@ impl GatherLine {
         self.numbers.cell(sign, container, place);
     }
 
-    /// Whether the next number isn't decided.
-    pub(super) fn is_open(&self) -> bool
-        ensures { result ≡ is_open self.now.numbers }
-    {
-        self.numbers.is_open()
-    }
-
     /// What is said of the next number, which is decided.
     pub(super) fn verdict<'a>(&self, place: &'a Container) -> Verdict<'a>
         requires decided { IsOpen self.now.numbers → ⊥ }
@@ -86,14 +77,6 @@ impl GatherLine {
         let upper = upper_half(self.verdict(place));
         self.nibbles.take(j, upper);
         self.numbers.next();
-    }
-
-    /// The packet of the line whose last number was passed just now, if it is one.
-    pub(super) fn packet(&self) -> Option<Packet>
-        ensures { (place : Container) (own : List Cell) (t : ℕ) → LineStands self.now place own t →
-            t % 16 ≡ 8 → result ≡ packet_at own t }
-    {
-        self.nibbles.packet()
     }
 }
 

@@ -182,7 +182,7 @@ fn decided_lines(lines: &[GatherLine]) -> usize
     ensures { result ≡ decided_lines lines.now }
 {
     for (m, line) in lines.iter().enumerate() {
-        if line.is_open() {
+        if line.numbers.is_open() {
             return m;
         }
     }
@@ -222,6 +222,7 @@ fn read_all(lines: &[GatherLine], packets: &mut [Option<Packet>])
     ensures read { AreRead (length lines.now) lines.now packets.new }
 {
     for m in 0..lines.len() {
-        packets[m] = lines[m].packet();
+        let line = &lines[m];
+        packets[m] = line.nibbles.packet();
     }
 }
