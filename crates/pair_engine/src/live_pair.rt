@@ -196,8 +196,8 @@ impl LivePair {
             result ≡ waiting_in (leg_on one other way) (counts_on (walking_counts self.now) way) }
     {
         match way {
-            Way::There => self.there.core.waiting(),
-            Way::Back => self.back.core.waiting(),
+            Way::There => self.there.core.source().core().queue().waiting(),
+            Way::Back => self.back.core.source().core().queue().waiting(),
         }
     }
 

@@ -126,7 +126,7 @@ fn hear(own: &LiveWay, other: &mut LiveWay, row: u32)
     ensures other { Keeps (walking_of other.old) (walking_of other.new) }
 {
     if row >= 16 * u32::from(own.lag) + 23 {
-        let cell = heard_cell(own.core.packets());
+        let cell = heard_cell(own.core.rows().packets());
         other.core.put(cell);
     }
 }

@@ -4,7 +4,7 @@ use Rattle.std.proofs.Common.{List, [], ◌∷◌, ◌++◌, length, replicate, 
 use Rattle.std.proofs.Common.{◌∙◌, ap, subst, arith, append_assoc, min, ◌*◌, ◌/◌, if◌then◌else◌, map, is_some, ◌^◌}
 use Rattle.std.proofs.Common.{ap₂}
 use Rattle.std.proofs.lemmas.Option.{slice_get_within}
-use Rattle.std.proofs.lemmas.Bool.{cases_Bool, lt-ltb, le-ltb}
+use Rattle.std.proofs.lemmas.Bool.{cases_Bool, le-ltb}
 use Rattle.std.proofs.lemmas.List.{append-nil, drop_all, replicate-append-replicate}
 use Rattle.std.proofs.Math.Seq.{drop-append_seam}
 use Rattle.law_model.specs.Common.{Leg, Due, frame_due, command_due, LinePath, LineCounts, Plan, Counts, Step, in_send}
@@ -500,11 +500,6 @@ module _ (leg : Leg) (backs : ℕ) (parts : Parts) (result : Bool) (is : WayStan
       by-cells
       ∙ rw past (ap is_some (carriers-are leg (counts_of parts backs) (sound-walks leg is.sound) is.walked k low)
       ∙ some-where (is_known (scenario_by leg) (session_of leg) k) _)
-
-  pub known-early : parts.sink.taken < 24 → result ≡ false
-  known-early low =
-      let first : nat_lt parts.sink.taken 24 ≡ true = lt-ltb parts.sink.taken 24 low in
-      by-cells ∙ rw first refl
 
 -- ---- The mark of the segment that goes on is that of the session's rows.
 pub mark-is : (leg : Leg) (backs : ℕ) (parts : Parts) (result : Option ℕ) → WayStands leg backs parts →

@@ -168,7 +168,7 @@ impl AnsweredWalk {
             ++ (queue_lines self.old.tells self.old.waiting self.new.waiting ++ now_text ticks))) }
     {
         let before = self.waiting;
-        self.waiting = self.walk.way().waiting();
+        self.waiting = self.walk.way().source().core().queue().waiting();
         match tell_queue(self.tells, before, self.waiting, block, out) {
             Ok(()) => tell_now(ticks, block, out),
             Err(Failed) => Err(Failed),

@@ -47,7 +47,7 @@ fn see_known(walk: &Walk, row: u32, packets: &mut Packets) -> Result<(), AllocEr
     if !ends_packet(row) {
         return Ok(());
     }
-    packets.push_known(walk.live().way().knows())
+    packets.push_known(walk.live().way().sink().knows())
 }
 
 /// Sees a row, which was taken last.
@@ -65,8 +65,11 @@ fn see_row(walk: &Walk, row: u32, seen: &mut SeenRows) -> Result<(), AllocError>
     see_known(walk, row, &mut seen.packets)?;
     seen.runs.row(cause)?;
     let end = seen.packets.place(row + 1);
-    seen.segments
-        .row(cause.is_none(), end, walk.live().way().first_confirmed())
+    seen.segments.row(
+        cause.is_none(),
+        end,
+        walk.live().way().sink().first_confirmed(),
+    )
 }
 
 /// Sees what came of a turn, after so many ticks and rows. Where memory is short the segments are as they

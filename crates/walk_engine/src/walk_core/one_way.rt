@@ -1,18 +1,16 @@
 //! One direction of a group without its way back, call by call.
 
-ghost use Rattle.std.specs.Prelude.{◌≡◌, ℕ, ◌+◌, ◌-◌, ◌/◌, ◌<◌, ◌≤◌, false, List, [], length, map};
+ghost use Rattle.std.specs.Prelude.{◌≡◌, ℕ, ◌+◌, ◌<◌, ◌≤◌, List, [], length, map};
 ghost use Rattle.std.specs.Prelude.{slice_index_or, slice_set};
 ghost use Rattle.std.specs.Prelude.{Option, Some, None, IfOk, is_some};
-ghost use Rattle.law_model.specs.Common.{begin, full, Leg, governing, Scenario, source_at, steps_in};
-ghost use Rattle.law_model.specs.Common.{segments_of, Told, IsNetwork, scenario_by, is_known};
+ghost use Rattle.law_model.specs.Common.{begin, full, Leg, Scenario, source_at, steps_in, Told, IsNetwork};
 ghost use Rattle.law_model.specs.declared.script_types.Config.{Config};
 ghost use Rattle.law_model.specs.declared.walk_events.Event.TheVariants.{Tick, Carry};
 ghost use Rattle.terminal_source.specs.source_core.GivenScenario.{SourceStands as HasMade};
 ghost use Rattle.terminal_source.specs.source_core.Terminal.{needed, SameKind};
 ghost use Rattle.member_path.specs.failure_window.OpenWindows.{CanClose, closed_at, last_end, opened_at};
-ghost use Rattle.terminal_sink.specs.marked_delineator.Marks.{first_place};
-ghost use Rattle.law_walk.specs.Common.{session_of, session_rows, is_client, totals_of, walk_plan};
-ghost use Rattle.law_walk.specs.Common.{landed_scenario, popped_cells, table_in, told_before};
+ghost use Rattle.law_walk.specs.Common.{is_client, totals_of, walk_plan};
+ghost use Rattle.law_walk.specs.Common.{landed_scenario, table_in, told_before};
 ghost use Rattle.terminal_group.specs.ReturnInbox.{empty_inbox, with_come, cell_for, rest_for};
 ghost use Rattle.terminal_group.specs.Item.{kind_of};
 ghost use Rattle.terminal_group.specs.SourceByCounts.{missing_from};
@@ -20,7 +18,7 @@ ghost use Rattle.walk_engine.specs.walk_core.Landing.{landing_of};
 ghost use Rattle.walk_engine.specs.walk_core.WalkAfterEvent.{answer_by, refusal_in_event, GivesRows};
 ghost use Rattle.walk_engine.specs.declared.walk_core.step_answers.Moved.TheVariants.{Yes};
 ghost use Rattle.walk_engine.specs.walk_core.OpenedWay.{HasWindows, IsNew, IsAlike};
-ghost use Rattle.walk_engine.specs.walk_core.WayParts.{counts_of, line_counts, waiting_in, windows_in};
+ghost use Rattle.walk_engine.specs.walk_core.WayParts.{counts_of, line_counts, windows_in};
 ghost use Rattle.walk_engine.specs.walk_core.WayParts.{StandsForSome, WayStands};
 ghost use Rattle.walk_engine.specs.walk_core.Take.{take_cause};
 ghost use Rattle.walk_engine.specs.walk_core.EventAnswers.{Makes, IsDue, with_passed, CanTick, Takes};
@@ -115,6 +113,13 @@ impl WayCore {
         &self.sink
     }
 
+    /// Its gathered rows.
+    pub fn rows(&self) -> &RowGather
+        ensures { result.now ≡ self.now.rows }
+    {
+        &self.rows
+    }
+
     /// How many lines there are.
     pub fn lines(&self) -> u8
         requires { StandsForSome self.now }
@@ -135,24 +140,6 @@ impl WayCore {
         self.source.core().table()
     }
 
-    /// How many frames wait, at most 256: those that were accepted and of which no octet is made.
-    pub fn waiting(&self) -> u16
-        ensures most { result ≤ 256 }
-        ensures waits { (leg : Leg) (backs : ℕ) → WayStands leg backs self.now →
-            result ≡ waiting_in leg (counts_of self.now backs) }
-    {
-        self.source.core().queue().waiting()
-    }
-
-    /// The packets that were read with the last packet row that was taken, by line. A line has none where it
-    /// had no packet that can be read.
-    pub fn packets(&self) -> &[Option<Packet>]
-        ensures { (leg : Leg) (backs : ℕ) → WayStands leg backs self.now → result.now
-            ≡ governing (popped_cells leg (map line_counts self.now.lines)) self.now.sink.taken }
-    {
-        self.rows.packets()
-    }
-
     /// What came of it so far, in numbers.
     pub fn totals(&self) -> Totals
         ensures { (leg : Leg) (backs : ℕ) → WayStands leg backs self.now →
@@ -167,25 +154,6 @@ impl WayCore {
             refused: landed.all_refused(),
             got: self.got,
         }
-    }
-
-    /// The place that is confirmed first in the segment that goes on with the next row, counted from its first octet.
-    pub fn first_confirmed(&self) -> Option<u64>
-        ensures { (leg : Leg) (backs : ℕ) → WayStands leg backs self.now → result
-            ≡ first_place (segments_of (session_rows leg self.now.sink.taken)).last.octets }
-    {
-        self.sink.first_confirmed()
-    }
-
-    /// Whether it is known which lines carry payload in the next row. No packet says it of rows 0 to 23.
-    pub fn knows(&self) -> bool
-        ensures known { (leg : Leg) (backs : ℕ) → WayStands leg backs self.now →
-            24 ≤ self.now.sink.taken → result
-            ≡ is_known (scenario_by leg) (session_of leg) ((self.now.sink.taken - 24) / 16) }
-        ensures early { (leg : Leg) (backs : ℕ) → WayStands leg backs self.now →
-            self.now.sink.taken < 24 → result ≡ false }
-    {
-        self.sink.knows()
     }
 
     /// Lands an item now. Answers why it is refused, where it is.

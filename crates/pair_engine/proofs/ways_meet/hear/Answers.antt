@@ -1,8 +1,9 @@
 -- What is read is the session's return cell; the first packets tell none.
-use Rattle.std.proofs.Common.{ap, arith}
-use Rattle.law_model.specs.session.Scenario.{packets_in}
+use Rattle.std.proofs.Common.{ap, arith, map, ◌∙◌}
+use Rattle.law_model.specs.Common.{governing}
+use Rattle.law_walk.specs.Common.{popped_cells}
 use Rattle.law_pair.specs.Common.{way_of}
-use Rattle.walk_engine.specs.Common.{Parts, windows_in}
+use Rattle.walk_engine.specs.Common.{Parts, line_counts, windows_in}
 use Rattle.pair_engine.specs.Ways.{walking_of}
 use Rattle.pair_engine.proofs.TakenRowAndHeardPacketLaws.{put-room, put-few, hears-late, hears-early}
 use Rattle.pair_engine.proofs.ways_meet.hear.Goals as goal
@@ -27,9 +28,11 @@ returns-then-row-from-clause-hears c script beside was ends =
     let late = c.if-row-from.true in
     let from = c.from.ensures in
     let lag = ends.lag in
+    let popped = popped_cells (way_of script beside) (map line_counts own.core.lines) in
     hears-late script beside was own other c.args.row ends (omega (arith, late, from, lag)) c.heard_cell-cell.result
     c.packets.result.now c.put.new.self c.heard_cell-cell.ensures.said
-    (c.packets.ensures (way_of script beside) (packets_in own.core.sink.taken) ends.stands)
+    ((rw c.rows.ensures at c.packets.ensures.governing) popped ends.stands.sink.gathers
+    ∙ ap (governing popped) ends.stands.sink.passed)
     c.heard_cell-cell.ensures.told c.put.ensures
 
 pub returns-then-row-from-clause-other : goal.returns-then-row-from-clause-other

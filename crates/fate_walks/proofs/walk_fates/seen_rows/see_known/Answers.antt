@@ -3,6 +3,7 @@ use Rattle.std.proofs.Common.{rules, ◌≡◌, ◌-◌, ◌≤◌, ◌/◌, ◌
 use Rattle.std.proofs.lemmas.Result.{on_ok_weaker}
 use Rattle.law_model.specs.Common.{Counts, leg_of, scenario_by, is_known}
 use Rattle.law_walk.specs.Common.{session_of}
+use Rattle.walk_engine.proofs.WalkRoundAndTotalsLaws.{known-is}
 use Rattle.fate_walks.proofs.FatesAndSeenRowsLaws.{packets-known}
 use Rattle.fate_walks.proofs.walk_fates.seen_rows.see_known.Goals as goal
 
@@ -13,7 +14,8 @@ returns-clause-packets c =
     let known : 24 ≤ s.rows → c.knows.result ≡ is_known (scenario_by leg) (session_of leg) ((s.rows - 24) / 16) =
     subst (λ (s : Counts). 24 ≤ s.rows → c.knows.result
     ≡ is_known (scenario_by leg) (session_of leg) ((s.rows - 24) / 16)) (c.way.ensures.counts ∙ c.live.ensures.counts)
-    (c.knows.ensures.known leg _ (c.way.ensures.stands leg c.live.ensures.stands)) in
+    (known-is leg _ _ c.knows.result (c.way.ensures.stands leg c.live.ensures.stands)
+    (rw c.sink.ensures at c.knows.ensures)) in
     let ends = (c.ends_packet.ensures.end).0 (search rules) in
     let here : (s.rows - 24) / 16 ≡ length c.args.packets.now.known =
     omega (arith, c.requires.last, c.requires.known, ends.0, ends.1) in

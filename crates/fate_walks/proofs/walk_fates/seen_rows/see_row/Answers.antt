@@ -9,6 +9,7 @@ use Rattle.fate_engine.specs.declared.fate_law.Cause.{Cause}
 use Rattle.std.specs.List.{range_with_len}
 use Rattle.law_walk.specs.Common.{session_of, session_rows}
 use Rattle.terminal_sink.specs.marked_delineator.Marks.{first_place}
+use Rattle.walk_engine.proofs.WalkRoundAndTotalsLaws.{mark-is}
 use Rattle.fate_walks.proofs.FatesAndSeenRowsLaws.{few-rows, causes-size, rows-size, rows-next, row-tells}
 use Rattle.fate_walks.proofs.FatesAndSeenRowsLaws.{whole-cause, none-is, place-low, mark-low-seen as mark-low, one-row}
 use Rattle.fate_walks.proofs.FatesAndSeenRowsLaws.{on-err, part-stays, part-packets, part-ahead}
@@ -54,7 +55,8 @@ row-requires-2 c =
     let few = few-rows leg c.args.walk.now.counts sound c.requires.walked in
     let size = rows-size leg c.args.row in
     let low : rows ≤ leg.config.ticks = omega (arith, few.0, few.1) in
-    let told = c.first_confirmed.ensures leg _ (c.way.ensures.stands leg c.live.ensures.stands)
+    let told = mark-is leg _ _ c.first_confirmed.result (c.way.ensures.stands leg c.live.ensures.stands)
+    (rw c.sink.ensures at c.first_confirmed.ensures)
     ∙ ap (mark_after leg) (c.way.ensures.counts ∙ c.live.ensures.counts) in
     let is = c.place-end.ensures (scenario_of c.args.walk.now.script) (session_of leg)
     c.in_ok-see_known.ensures.packets.are in
@@ -83,7 +85,8 @@ returns-clause-ok c =
     let told : Tells (session_rows (leg_of script) (row + 1)) c.place-end.result c.first_confirmed.result =
     row-tells (leg_of script) c.args.walk.now.counts
     (row + 1) c.place-end.result c.first_confirmed.result c.requires.last ends
-    (c.first_confirmed.ensures (leg_of script) _ (c.way.ensures.stands (leg_of script) c.live.ensures.stands)
+    (mark-is (leg_of script) _ _ c.first_confirmed.result
+    (c.way.ensures.stands (leg_of script) c.live.ensures.stands) (rw c.sink.ensures at c.first_confirmed.ensures)
     ∙ ap (mark_after (leg_of script)) (c.way.ensures.counts ∙ c.live.ensures.counts)) in
     let whole = whole-cause (leg_of script) row c.row_cause-cause.result is
     ∙ none-is c.row_cause-cause.result c.is_none.result c.is_none.ensures in

@@ -1,8 +1,8 @@
 -- The line of the queue, and then that of the ticks.
-use Rattle.std.proofs.Common.{◌∙◌, ap}
+use Rattle.std.proofs.Common.{◌∙◌}
 use Rattle.std.proofs.lemmas.Result.{on_err_weaker, on_ok_weaker}
 use Rattle.law_live.specs.Common.{now_text}
-use Rattle.walk_engine.specs.walk_core.WayParts.{Parts, counts_of, waiting_in}
+use Rattle.walk_engine.proofs.TickAndFullRingLaws.{waiting-after}
 use Rattle.walk_live.proofs.TimedLineWritingLaws.{holds-more, part-longer, part-more}
 use Rattle.walk_live.proofs.answered_walk.AnsweredWalk.end_pass.Goals as goal
 
@@ -27,9 +27,10 @@ returns-in-Err-clause-part g c =
 
 pub returns-in-Ok-clause-waits : goal.returns-in-Ok-clause-waits
 returns-in-Ok-clause-waits g c leg stands =
-    rw c.way.ensures.way at c.waiting-self.ensures.waits leg _ stands.stands
+    (rw (c.queue.ensures, c.core.ensures, c.source.ensures, c.way.ensures.way) at c.waiting-self.ensures.count)
+    ∙ waiting-after leg _ _ stands.stands
 
 pub returns-in-Err-clause-waits : goal.returns-in-Err-clause-waits
 returns-in-Err-clause-waits g c leg stands =
-    c.waiting-self.ensures.waits leg _ (c.way.ensures.stands leg stands)
-    ∙ ap (λ (p : Parts). waiting_in leg (counts_of p c.args.self.now.walk.way.source.inbox.come)) c.way.ensures.way
+    (rw (c.queue.ensures, c.core.ensures, c.source.ensures, c.way.ensures.way) at c.waiting-self.ensures.count)
+    ∙ waiting-after leg _ _ stands.stands
