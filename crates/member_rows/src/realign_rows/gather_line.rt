@@ -1,15 +1,15 @@
 //! One line of a group.
 
-ghost use Rattle.std.specs.Prelude.{◌≡◌, ℕ, ◌+◌, ◌%◌, ◌<◌, List, [], ◌∷◌, ◌++◌, Some, IfSome};
+ghost use Rattle.std.specs.Prelude.{◌≡◌, ℕ, ◌+◌, ◌%◌, ◌<◌, List, [], Some, IfSome};
 ghost use Rattle.law_model.specs.Common.{Container, Cell, verdict, upper_of};
-ghost use Rattle.member_path.specs.cell_numbers.SignsAsCells.{cell_with, told_by};
+ghost use Rattle.member_path.specs.cell_numbers.SignsAsCells.{told_by};
 ghost use Rattle.member_path.specs.cell_numbers.Numbers.{IsOpen};
 ghost use Rattle.member_rows.specs.realign_rows.Line.{LineStands};
 
 use crate::realign_rows::packet_nibbles::PacketNibbles;
 use check_nibbles::nibble_hi;
-use member_cells::{Container, HeldContainer};
-use member_path::cell_numbers::{CellSign, LineNumbers, Verdict};
+use member_cells::Container;
+use member_path::cell_numbers::{LineNumbers, Verdict};
 use std::marker::Model;
 
 /// The numbers of a line, and the nibbles of its packets.
@@ -37,22 +37,6 @@ impl GatherLine {
             numbers: LineNumbers::new(),
             nibbles: PacketNibbles::new(),
         }
-    }
-
-    /// Takes the next cell of a line whose next number isn't decided, and changes the boxes where the container
-    /// of a good cell is whole.
-    pub(super) fn cell(
-        &mut self,
-        sign: CellSign,
-        container: &mut Box<HeldContainer>,
-        place: &mut Box<HeldContainer>,
-    )
-        requires open { IsOpen self.old.numbers }
-        ensures stands { (own : List Cell) (t : ℕ) → LineStands self.old place.old.value own t →
-            LineStands self.new place.new.value
-            (own ++ cell_with sign container.old.value ∷ []) t }
-    {
-        self.numbers.cell(sign, container, place);
     }
 
     /// What is said of the next number, which is decided.

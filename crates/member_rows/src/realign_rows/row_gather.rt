@@ -99,7 +99,8 @@ impl RowGather {
         ensures rows { self.new.rows ≡ self.old.rows }
     {
         let m = usize::from(line);
-        self.lines[m].cell(sign, container, &mut self.places[m]);
+        let own = &mut self.lines[m];
+        own.numbers.cell(sign, container, &mut self.places[m]);
         self.decided = decided_after(&self.lines, m, self.decided);
     }
 
