@@ -101,7 +101,7 @@ impl LiveWay {
             self.new ≡ record self.old { said = left_untold tells self.old.said } }
     {
         if tells_next(u32::from(self.lag), self.core.source().core().ticks()) {
-            self.said.tell()
+            self.said.packets.pop_front()
         } else {
             None
         }

@@ -1,6 +1,6 @@
 //! What waits to be told in the packets of the other way.
 
-ghost use Rattle.std.specs.Prelude.{◌≡◌, ◌+◌, ◌<◌, [], ◌∷◌, ◌++◌, drop, length, slice_get, IfOk};
+ghost use Rattle.std.specs.Prelude.{◌≡◌, ◌<◌, [], ◌∷◌, ◌++◌, length, IfOk};
 
 use circular_buffer::HeapCircularBuffer;
 use member_rows::lcas_packet::Packet;
@@ -11,7 +11,7 @@ use std::marker::Model;
 /// than the lag. Only its making takes memory.
 #[derive(Drop)]
 pub(crate) struct SaidRing {
-    packets: HeapCircularBuffer<Packet>,
+    pub(crate) packets: HeapCircularBuffer<Packet>,
 }
 
 impl Model for SaidRing {
@@ -42,13 +42,5 @@ impl SaidRing {
         ensures room { self.new.room ≡ self.old.room }
     {
         let _ = self.packets.push_back(packet);
-    }
-
-    /// Gives the first packet, which is told now.
-    pub(crate) fn tell(&mut self) -> Option<Packet>
-        ensures packet { result ≡ slice_get self.old.packets 0 }
-        ensures rest { self.new ≡ record self.old { packets = drop 1 self.old.packets } }
-    {
-        self.packets.pop_front()
     }
 }
