@@ -85,7 +85,7 @@ impl FrameQueue {
                 n: frame.len() as u64,
             });
         }
-        if self.store.len() >= MAX_WAITING {
+        if self.store.waiting.len() >= MAX_WAITING {
             return Some(AcceptFault::QueueFull {
                 waiting: MAX_WAITING as u16,
             });
@@ -98,7 +98,7 @@ impl FrameQueue {
         ensures count { result ≡ length self.now.waiting }
         ensures within { result ≤ most_waiting }
     {
-        self.store.len() as u16
+        self.store.waiting.len() as u16
     }
 }
 

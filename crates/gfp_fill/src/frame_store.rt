@@ -17,7 +17,7 @@ use std::mem;
 /// The frames that wait, oldest first, `MOST` at most.
 #[derive(Drop)]
 pub struct FrameStore<const MOST: usize> {
-    waiting: VecDeque<Vec<u8>>,
+    pub(crate) waiting: VecDeque<Vec<u8>>,
     spare: Vec<Vec<u8>>,
 }
 
@@ -45,15 +45,6 @@ impl<const MOST: usize> FrameStore<MOST> {
             waiting: VecDeque::with_capacity(alloc, MOST)?,
             spare,
         })
-    }
-
-    /// How many frames wait.
-    #[inline]
-    pub fn len(&self) -> usize
-        ensures count { result ≡ length self.now }
-        ensures within { result ≤ MOST }
-    {
-        self.waiting.len()
     }
 
     /// Whether no frame waits.
