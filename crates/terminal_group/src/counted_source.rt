@@ -141,7 +141,7 @@ impl CountedSource {
         ensures { result ≡ missing_from self.now }
     {
         match self.core.needs_back() {
-            Some(packet) if self.inbox.is_empty() => Some(packet),
+            Some(packet) if self.inbox.cells.is_empty() => Some(packet),
             _ => None,
         }
     }

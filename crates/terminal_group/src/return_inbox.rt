@@ -1,6 +1,6 @@
 //! The return cells that have come to a group and that no decision step has taken.
 
-ghost use Rattle.std.specs.Prelude.{◌≡◌, ◌<◌, ◌≤◌, ◌+◌, ◌↔◌, [], length, IfOk, IsTrue};
+ghost use Rattle.std.specs.Prelude.{◌≡◌, ◌<◌, ◌≤◌, ◌+◌, ◌↔◌, length, IfOk, IsTrue};
 ghost use Rattle.terminal_group.specs.ReturnInbox.{cell_for, is_lost_in, empty_inbox, rest_for, with_come};
 
 use circular_buffer::HeapCircularBuffer;
@@ -13,7 +13,7 @@ use std::marker::Model;
 pub struct Inbox {
     /// The return windows.
     lost: Vec<(u32, u32)>,
-    cells: HeapCircularBuffer<BackCell>,
+    pub(crate) cells: HeapCircularBuffer<BackCell>,
     /// How many return cells have come in all.
     come: u32,
 }
@@ -46,13 +46,6 @@ impl Inbox {
         ensures { IsTrue result ↔ (self.now.room ≡ length self.now.cells) }
     {
         self.cells.len() == self.cells.capacity()
-    }
-
-    /// Whether it holds no return cell.
-    pub fn is_empty(&self) -> bool
-        ensures { IsTrue result ↔ (self.now.cells ≡ []) }
-    {
-        self.cells.is_empty()
     }
 
     /// Takes a return cell that has come, or its loss where a return window holds it.
