@@ -46,7 +46,12 @@ use Rattle.thread_group.specs.declared.group_answers.SubmitFault.{SubmitFault}
 use Rattle.law_model.specs.declared.item_refusals.Refusal.{Refusal}
 use Rattle.law_model.specs.declared.item_refusals.Refusal.TheVariants.{Frame as frame_refused, Command as command_refused}
 use Rattle.thread_group.specs.SubmitFaults.{has_landed, is_full}
-use Rattle.thread_group.specs.GroupCalls.{Submits}
+use Rattle.thread_group.specs.GroupCalls.{Submits, Ticks}
+use Rattle.thread_group.specs.Group.{held_of}
+use Rattle.thread_group.specs.declared.group_answers.TickAnswer.{TickAnswer}
+use Rattle.thread_group.specs.declared.group_answers.TickAnswer.TheVariants.{Ticked, Held}
+use Rattle.terminal_source.specs.source_core.Terminal.{Terminal}
+use Rattle.law_model.specs.Common.{dues_of, held}
 use Rattle.thread_group.proofs.SubmitAndTickAnswerLaws.{fault_by}
 use Rattle.thread_session.specs.session_run.Turns.{HasLanded, MayLand}
 
@@ -337,3 +342,14 @@ lands-where was now number kind answer call room = (
       (fits (parts_of was).journal kind) (group_slots_of was) (bytes_of was) may.next may.due
       (sym (ap is_full call.fault) ∙ room)),
 )
+
+-- ---- What a tick answers holds of the group after it.
+pub still-held : (a b : GroupState) (answer : TickAnswer) (item : ℕ) → Ticks a b answer → answer ≡ Held item →
+    held_of b ≡ Some item
+still-held a b answer item call is =
+    let source = call.source (λ e. let f : Held item ≡ Ticked = sym is ∙ e in absurd cc) in
+    ap (λ (t : Terminal). held t.ticks (frames_of b) (commands_of b) 0 (dues_of (items_of b))) source
+    ∙ ap (λ n. held (ticks_of a) n (commands_of b) 0 (dues_of (items_of b))) call.landed.frames
+    ∙ ap (λ n. held (ticks_of a) (frames_of a) n 0 (dues_of (items_of b))) call.landed.commands
+    ∙ ap (λ (l : List Item). held (ticks_of a) (frames_of a) (commands_of a) 0 (dues_of l)) call.script.items
+    ∙ ((call.held item).0 is).1

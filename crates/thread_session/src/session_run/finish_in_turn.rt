@@ -1,10 +1,12 @@
 //! What the calling thread goes on with once all others have ended: whatever isn't done, in turn.
-ghost use Rattle.std.specs.Prelude.{◌≡◌, ◌≤◌, ◌↔◌, true};
+ghost use Rattle.std.specs.Prelude.{◌≡◌, ◌≤◌, ◌↔◌, true, Some, slice_get};
+ghost use Rattle.law_model.specs.declared.script_types.Item.{Item};
 ghost use Rattle.text_got.specs.TextSoFar.{seen};
-ghost use Rattle.thread_group.specs.Group.{ticks_of, total_of};
+ghost use Rattle.thread_group.specs.Group.{ticks_of, total_of, HasCounted};
 ghost use Rattle.thread_session.specs.session_parts.Duty.{Begun, HasRun};
 ghost use Rattle.thread_alarms.specs.watched_line.ServedWithPosts.{AreServedLater};
 ghost use Rattle.thread_session.specs.session_run.SessionOfScript.{IsAllDone};
+ghost use Rattle.thread_session.specs.session_run.Turns.{MayLand};
 
 use crate::session_parts::carry_all;
 use crate::session_run::group_turns::{submit, who_brings};
@@ -46,6 +48,9 @@ fn land_held<Y: Session, G: Gate>(
     room: &mut FrameRoom,
 )
     requires items { items.now ≡ Y.script.items }
+    ensures landed { (item : Item) → slice_get items.now number ≡ Some item →
+        MayLand group.old.state number item.kind →
+        HasCounted group.old.state group.new.state item.kind true }
 {
     if number < items.len() {
         let who = who_brings(items, number);

@@ -1,13 +1,14 @@
 //! The turns at the group, each under its lock. Client and operator hand in their items ahead, and the source lands
 //! each of them at its due tick, and makes the frames.
-ghost use Rattle.std.specs.Prelude.{◌≡◌, ℕ, ◌≤◌, ◌<◌, ◌↔◌, not, true, false, Some, IfSome, IfNone};
-ghost use Rattle.std.specs.Prelude.{length, slice_get};
+ghost use Rattle.std.specs.Prelude.{◌≡◌, ℕ, ◌+◌, ◌≤◌, ◌<◌, ◌↔◌, not, true, false, Some, IfSome, IfNone};
+ghost use Rattle.std.specs.Prelude.{if◌then◌else◌, length, slice_get};
 ghost use Rattle.std.specs.Option.{is_some};
 ghost use Rattle.law_model.specs.Common.{leg_of, refusal_in};
 ghost use Rattle.law_model.specs.declared.script_types.Item.{Item};
 ghost use Rattle.law_walk.specs.Common.{is_client};
 ghost use Rattle.thread_group.specs.SubmitFaults.{has_landed};
-ghost use Rattle.thread_group.specs.Group.{HasCounted, next_brought};
+ghost use Rattle.thread_group.specs.declared.group_answers.TickAnswer.TheVariants.{Held, Done};
+ghost use Rattle.thread_group.specs.Group.{HasCounted, next_brought, ticks_of, total_of, held_of, is_ticked};
 ghost use Rattle.thread_group.specs.HandedAhead.{handed_below};
 ghost use Rattle.thread_session.specs.session_parts.Flags.{heeded};
 ghost use Rattle.thread_session.specs.session_run.Turns.{bringer, brings, brings_frames};
@@ -77,6 +78,7 @@ pub(super) fn submit<Y: Session>(
     ensures when { (item : Item) → slice_get items.now number ≡ Some item →
         result ≡ true ↔ MayLand group.old.state number item.kind }
     ensures stays { result ≡ false → group.new.state ≡ group.old.state }
+    ensures ticks { ticks_of group.new.state ≡ ticks_of group.old.state }
     ensures landed { (item : Item) → slice_get items.now number ≡ Some item →
         result ≡ true → HasLanded (leg_of Y.script) Y.tx Y.back number item.kind }
 {
@@ -191,6 +193,7 @@ fn land<Y: Session>(
     ensures counted { (item : Item) → slice_get items.now number ≡ Some item →
         HasCounted group.old.state group.new.state item.kind result }
     ensures stays { result ≡ false → group.new.state ≡ group.old.state }
+    ensures ticks { ticks_of group.new.state ≡ ticks_of group.old.state }
 {
     let client = is_client(who_brings(items, number));
     if !group.is_handed_in(client, number) {
@@ -206,6 +209,10 @@ fn make_frame<Y: Session>(
     room: &mut FrameRoom,
 ) -> TickAnswer
     requires { items.now ≡ Y.script.items }
+    ensures made { ticks_of group.new.state
+        ≡ ticks_of group.old.state + (if is_ticked result then 1 else 0) }
+    ensures done { result ≡ Done → total_of group.new.state ≤ ticks_of group.new.state }
+    ensures held { (item : ℕ) → result ≡ Held item → held_of group.new.state ≡ Some item }
 {
     for _ in 0..items.len() {
         let answer = group.tick();
@@ -226,6 +233,9 @@ fn make_frames<Y: Session>(
     room: &mut FrameRoom,
 ) -> (u32, TickAnswer)
     requires { items.now ≡ Y.script.items }
+    ensures made { ticks_of group.new.state ≡ ticks_of group.old.state + result.0 }
+    ensures done { result.1 ≡ Done → total_of group.new.state ≤ ticks_of group.new.state }
+    ensures held { (item : ℕ) → result.1 ≡ Held item → held_of group.new.state ≡ Some item }
 {
     for made in 0..FRAMES {
         let answer = make_frame(group, items, room);

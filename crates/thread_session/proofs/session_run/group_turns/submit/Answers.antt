@@ -27,6 +27,7 @@ returns g c =
           (subst (λ (landed : Bool). (landed ≡ true) ↔ MayLand old.state number kind) (sym c.has_landed.ensures)
           (lands-where old.state new.state number kind answer call c.submit.ensures.room));
       stays = λ no. call.unchanged (sym c.has_landed.ensures ∙ no);
+      ticks = call.rings.ticks;
       landed = λ item there yes. subst (HasLanded _ _ _ number) (is item there)
           (has-landed _ _ _ old.state new.state number kind answer old.bound call (sym c.has_landed.ensures ∙ yes));
     }
