@@ -41,19 +41,20 @@ use Rattle.std.proofs.lemmas.List.Sums.{sum_by-cons, sum_by-append, sum_by-le}
 use Rattle.law_model.specs.declared.script_types.ItemKind.{ItemKind}
 use Rattle.law_model.specs.declared.script_types.ItemKind.TheVariants.{Frame, Add, Remove}
 use Rattle.std.proofs.lemmas.Bool.{cases_Bool, eqb-true, eq-eqb, le-ltb}
-use Rattle.terminal_group.specs.Landed.{due_at}
+use Rattle.terminal_group.specs.Landed.{due_at, there_at}
+use Rattle.terminal_group.specs.ItemPlaces.{is_frame, is_command, place_of}
 use Rattle.thread_group.specs.declared.group_answers.SubmitFault.{SubmitFault}
 use Rattle.law_model.specs.declared.item_refusals.Refusal.{Refusal}
 use Rattle.law_model.specs.declared.item_refusals.Refusal.TheVariants.{Frame as frame_refused, Command as command_refused}
 use Rattle.thread_group.specs.SubmitFaults.{has_landed, is_full}
 use Rattle.thread_group.specs.GroupCalls.{Submits, Ticks}
-use Rattle.thread_group.specs.Group.{held_of}
+use Rattle.thread_group.specs.Group.{held_of, IsFreeToTick, next_brought, counted_by}
 use Rattle.thread_group.specs.declared.group_answers.TickAnswer.{TickAnswer}
-use Rattle.thread_group.specs.declared.group_answers.TickAnswer.TheVariants.{Ticked, Held}
+use Rattle.thread_group.specs.declared.group_answers.TickAnswer.TheVariants.{Ticked, Held, TxFull, BackMissing, Done}
 use Rattle.terminal_source.specs.source_core.Terminal.{Terminal}
 use Rattle.law_model.specs.Common.{dues_of, held}
 use Rattle.thread_group.proofs.SubmitAndTickAnswerLaws.{fault_by}
-use Rattle.thread_session.specs.session_run.Turns.{HasLanded, MayLand}
+use Rattle.thread_session.specs.session_run.Turns.{HasLanded, HasTried, MayLand}
 
 -- ---- One line more is opened.
 beyond : {X : Type 0} (xs : List X) (m n : ℕ) (y : X) → slice_get xs m ≡ Some y → m ≡ n → length xs ≡ n → ⊥
@@ -353,3 +354,42 @@ still-held a b answer item call is =
     ∙ ap (λ n. held (ticks_of a) (frames_of a) n 0 (dues_of (items_of b))) call.landed.commands
     ∙ ap (λ (l : List Item). held (ticks_of a) (frames_of a) (commands_of a) 0 (dues_of l)) call.script.items
     ∙ ((call.held item).0 is).1
+
+pub has-tried : (a b : GroupState) (answer : TickAnswer) → Ticks a b answer → IsFreeToTick a → HasTried a b
+has-tried a b Ticked call free = inl call.ticks
+has-tried a b (Held item) call free =
+    absurd (let e : None ≡ Some item = sym free.held ∙ ((call.held item).0 refl).1 in cc)
+has-tried a b (TxFull line) call free = inr (inl (line, call.full line refl))
+has-tried a b (BackMissing packet) call free = inr (inr (packet, call.missing packet refl))
+has-tried a b Done call free = absurd (let past = call.done.0 refl in let left = free.left in omega arith)
+
+next-same : (a b : GroupState) → items_of b ≡ items_of a → frames_of b ≡ frames_of a → commands_of b ≡ commands_of a →
+    (client : Bool) → next_brought b client ≡ next_brought a client
+next-same a b items frames commands true =
+    ap (λ n. there_at (place_of is_frame n (items_of b)) (items_of b)) frames
+    ∙ ap (λ (l : List Item). there_at (place_of is_frame (frames_of a) l) l) items
+next-same a b items frames commands false =
+    ap (λ n. there_at (place_of is_command n (items_of b)) (items_of b)) commands
+    ∙ ap (λ (l : List Item). there_at (place_of is_command (commands_of a) l) l) items
+
+-- what lands after a tick that an item held counts from before it
+pub lands-held : (items : List Item) (a m b : GroupState) (first number : ℕ) (item : Item) → Ticks a m (Held first) →
+    ((x : Item) → slice_get items first ≡ Some x → MayLand m first x.kind → HasCounted m b x.kind true) →
+    held_of a ≡ Some number → slice_get items number ≡ Some item → MayLand a number item.kind →
+    HasCounted a b item.kind true
+lands-held items a m b first number item call lands is there may =
+    let e : number ≡ first = same_Some _ _ (sym is ∙ ((call.held first).0 refl).1) in
+    let source = call.source (λ t. let f : Held first ≡ Ticked = t in absurd cc) in
+    let client = is_client item.kind in
+    let counted = lands item (ap (slice_get items) (sym e) ∙ there) (record {
+      next = next-same a m call.script.items call.landed.frames call.landed.commands client ∙ may.next ∙ ap Some e;
+      due = let due = may.due in
+          let at : due_at (items_of m) first ≡ due_at (items_of a) number =
+          ap (λ (l : List Item). due_at l first) call.script.items ∙ ap (due_at (items_of a)) (sym e) in
+          let now : ticks_of m ≡ ticks_of a = ap (λ (t : Terminal). t.ticks) source in
+          omega (arith, due, at, now);
+    }) in
+    record {
+      frames = counted.frames ∙ ap (λ n. n + counted_by client true) call.landed.frames;
+      commands = counted.commands ∙ ap (λ n. n + counted_by (not client) true) call.landed.commands;
+    }

@@ -1,5 +1,5 @@
 -- Who does what, and what has landed.
-use Rattle.std.specs.Prelude.{◌≡◌, ℕ, ◌+◌, ◌≤◌, nat_le, Bool, true, false, if◌then◌else◌, List, Option, Some, None}
+use Rattle.std.specs.Prelude.{◌≡◌, ◌⊎◌, ℕ, ◌+◌, ◌≤◌, nat_le, Bool, true, false, if◌then◌else◌, List, Option, Some, None}
 use Rattle.law_model.specs.Common.{Container, BackCell, Leg}
 use Rattle.law_model.specs.declared.script_types.ItemKind.{ItemKind}
 use Rattle.law_model.specs.session.Items.{sort_of}
@@ -10,7 +10,8 @@ use Rattle.thread_rings.specs.declared.burst_gate.Who.TheVariants.{Client, Opera
 use Rattle.thread_rings.specs.EndsOfRing.{OutEnd, InEnd}
 use Rattle.thread_group.specs.declared.group_state.GroupState.{GroupState}
 use Rattle.terminal_group.specs.Landed.{due_at}
-use Rattle.thread_group.specs.Group.{HasCounted, next_of, items_of, ticks_of}
+use Rattle.thread_group.specs.Group.{HasCounted, IsMissing, next_of, items_of, ticks_of}
+use Rattle.thread_group.specs.GroupRings.{IsFirstFull}
 use Rattle.thread_group.specs.GroupOfLeg.{IsBound}
 
 -- who brings an item of this sort, and of this kind
@@ -53,3 +54,8 @@ pub record HasLanded (leg : Leg) (tx : List (OutEnd Container)) (back : List (In
   pub bound : IsBound leg tx back was
   pub next : next_of was kind ≡ Some number
   pub counted : HasCounted was now kind true
+
+-- a tick was made, or none can be: a send ring is full, or the next tick lacks a return cell
+abbrev pub HasTried : GroupState → GroupState → Type 0
+HasTried a b = (ticks_of b ≡ ticks_of a + 1)
+    ⊎ (((line : ℕ) × IsFirstFull a.tx.items b.tx.items line) ⊎ ((packet : ℕ) × IsMissing packet a b))

@@ -1,12 +1,12 @@
 //! What the calling thread goes on with once all others have ended: whatever isn't done, in turn.
-ghost use Rattle.std.specs.Prelude.{◌≡◌, ◌≤◌, ◌↔◌, true, Some, slice_get};
+ghost use Rattle.std.specs.Prelude.{◌≡◌, ℕ, ◌≤◌, ◌↔◌, true, false, Some, slice_get};
 ghost use Rattle.law_model.specs.declared.script_types.Item.{Item};
 ghost use Rattle.text_got.specs.TextSoFar.{seen};
-ghost use Rattle.thread_group.specs.Group.{ticks_of, total_of, HasCounted};
+ghost use Rattle.thread_group.specs.Group.{ticks_of, total_of, held_of, IsFreeToTick, HasCounted};
 ghost use Rattle.thread_session.specs.session_parts.Duty.{Begun, HasRun};
 ghost use Rattle.thread_alarms.specs.watched_line.ServedWithPosts.{AreServedLater};
 ghost use Rattle.thread_session.specs.session_run.SessionOfScript.{IsAllDone};
-ghost use Rattle.thread_session.specs.session_run.Turns.{MayLand};
+ghost use Rattle.thread_session.specs.session_run.Turns.{HasTried, MayLand};
 
 use crate::session_parts::carry_all;
 use crate::session_run::group_turns::{submit, who_brings};
@@ -28,6 +28,11 @@ fn tick_or_land<Y: Session, G: Gate>(
     requires items { items.now ≡ Y.script.items }
     ensures done { result ≡ true ↔ (total_of group.old.state ≤ ticks_of group.old.state) }
     ensures stays { result ≡ true → total_of group.new.state ≤ ticks_of group.new.state }
+    ensures goes { IsFreeToTick group.old.state → HasTried group.old.state group.new.state }
+    ensures lands { (number : ℕ) (item : Item) → result ≡ false →
+        held_of group.old.state ≡ Some number →
+        slice_get items.now number ≡ Some item → MayLand group.old.state number item.kind →
+        HasCounted group.old.state group.new.state item.kind true }
 {
     gate.pass(Who::Source);
     match group.tick() {
