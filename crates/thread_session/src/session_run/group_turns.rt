@@ -15,7 +15,7 @@ ghost use Rattle.thread_session.specs.session_run.Turns.{bringer, brings, brings
 ghost use Rattle.thread_session.specs.session_run.Turns.{handed_ahead, next_or_greatest};
 ghost use Rattle.thread_session.specs.session_run.Turns.{HasLanded, MayLand};
 
-use crate::session_parts::{Bell, Heed};
+use crate::session_parts::{Bell, Flag, Heed};
 use crate::session_run::room_and_flags::Flags;
 use law_model::{FrameRoom, ItemList, ItemSort};
 use std::sync::{Mutex, OnceToken, Wait};
@@ -246,15 +246,21 @@ fn make_frames<Y: Session>(
     (FRAMES, TickAnswer::Ticked)
 }
 
+/// The flag of whoever brings an item.
+fn bringer_flag(flags: &Flags, who: Who) -> &Flag
+    ensures { result.now ≡ (if brings_frames who then flags.now.client else flags.now.operator) }
+{
+    if is_client(who) {
+        &flags.client
+    } else {
+        &flags.operator
+    }
+}
+
 /// Rings for whoever brings an item.
 fn ring_for(flags: &Flags, items: &ItemList, number: u32) {
     if number < items.len() {
-        let flag = if is_client(who_brings(items, number)) {
-            &flags.client
-        } else {
-            &flags.operator
-        };
-        flag.bell.ring();
+        bringer_flag(flags, who_brings(items, number)).bell.ring();
     }
 }
 
