@@ -1,3 +1,4 @@
+pub mod DelayShareLaws
 pub mod FrameFateBetweenOutagesLaws
 pub mod FrameTickAndRowOrderLaws
 pub mod LandedFrameTallyLaws

@@ -1,6 +1,6 @@
-//! The laws of the text that `service` writes: that its lines add up, what the queue counts, that they agree with
-//! `fates` and `walk`, what an outage is, and that delays change none of it. There is no code here. Begin at
-//! `stretch_law`, whose `written` says which lines the text has.
+//! The laws of the text that `service` writes: that its lines add up, what the queue counts, what the delays are, that
+//! they agree with `fates` and `walk`, what an outage is, and that delays change none of it. There is no code here.
+//! Begin at `stretch_law`, whose `written` says which lines the text has.
 
 ghost use Rattle.std.specs.Prelude.{◌≡◌, ◌⊎◌, ℕ, ◌+◌, ◌-◌, ◌*◌, ◌<◌, ◌≤◌, min, true, false, List, ◌++◌};
 ghost use Rattle.std.specs.Prelude.{map, length, filter};
@@ -40,7 +40,7 @@ ghost use Rattle.fate_service.specs.service_law.LinesAsNumbers.{StretchLine, str
 ghost use Rattle.fate_service.specs.service_law.LinesAsNumbers.{queue_of, waiting_in};
 ghost use Rattle.fate_service.specs.service_law.LinesAsNumbers.{fates_line};
 ghost use Rattle.fate_service.specs.service_law.LineSums.{FollowOn, AreRuns, total_of, tally_of, stream_octets};
-ghost use Rattle.fate_service.specs.service_law.LineSums.{IsPeak, IsHighest};
+ghost use Rattle.fate_service.specs.service_law.LineSums.{IsPeak, IsHighest, IsLeastFor};
 ghost use Rattle.fate_service.specs.service_law.OutageRuns.{dark_row, spoiled_row, row_outages, AreOutages};
 ghost use Rattle.fate_service.specs.service_law.OutageRuns.{BelongsOnce, rows_of_fate};
 ghost use Rattle.fate_service.specs.service_law.OutageRuns.{is_unsettled, LiesBetween};
@@ -103,6 +103,13 @@ pub fn queue_law()
     ensures greatest { (leg : Leg) (s : Counts) (interval : ℕ) → 1 ≤ interval →
         All (λ (line : StretchLine). IsPeak (queue_of leg s) line.first line.end line.counts.peak)
         (stretches_in leg s interval) }
+{}
+
+/// What the line of delays says of the frames that were got: at least half of them have a delay of at most `half`,
+/// and fewer a delay of at most any smaller number; and so for `most` and 99 of 100 of them.
+pub fn delays_law()
+    ensures half { (carried : List CarriedFrame) → IsLeastFor carried 50 (delays_of carried).half }
+    ensures most { (carried : List CarriedFrame) → IsLeastFor carried 99 (delays_of carried).most }
 {}
 
 /// The last line agrees with other texts of the script. That of `fates` is told by it; where `starts` is true,

@@ -1,10 +1,12 @@
 -- What it is that lines add up.
 use Rattle.std.specs.Prelude.{◌≡◌, ◌≢◌, ℕ, ◌+◌, ◌*◌, ◌<◌, ◌≤◌, List, [], ◌∷◌, length, sum_by, take, All}
-use Rattle.std.specs.Prelude.{Some, slice_get}
+use Rattle.std.specs.Prelude.{Some, slice_get, filter, nat_le, ◌&&◌}
+use Rattle.fate_service.specs.declared.landed_frames.CarriedFrame.{CarriedFrame}
 use Rattle.fate_service.specs.declared.landed_frames.Tally.{Tally}
 use Rattle.fate_service.specs.declared.width_run.WidthRun.{WidthRun}
 use Rattle.fate_service.specs.declared.stretch_counts.Peak.{Peak}
 use Rattle.fate_service.specs.declared.stretch_counts.Stretch.{Stretch}
+use Rattle.fate_service.specs.Stretches.{delay_of}
 
 -- ---- one behind the other
 -- parts follow each other from one number to another, and none of them is empty
@@ -53,3 +55,17 @@ pub record IsHighest (peaks : List Peak) (peak : Peak) : Type 0 where
   pub there : slice_get peaks number ≡ Some peak
   pub most : All (λ (other : Peak). other.queue ≤ peak.queue) peaks
   pub least : All (λ (other : Peak). other.queue < peak.queue) (take number peaks)
+
+-- ---- delays
+-- how many frames were got, and how many of them with a delay of at most so many ticks
+abbrev pub got_count : List CarriedFrame → ℕ
+got_count carried = length (filter (λ (frame : CarriedFrame). frame.got) carried)
+
+abbrev pub got_within : List CarriedFrame → ℕ → ℕ
+got_within carried most =
+    length (filter (λ (frame : CarriedFrame). frame.got && nat_le (delay_of frame) most) carried)
+
+-- at least so many of 100 frames that were got don't exceed it, and fewer don't exceed a smaller one
+pub record IsLeastFor (carried : List CarriedFrame) (share delay : ℕ) : Type 0 where
+  pub enough : share * got_count carried ≤ 100 * got_within carried delay
+  pub less : (d : ℕ) → d < delay → 100 * got_within carried d < share * got_count carried
