@@ -1,7 +1,8 @@
--- Worked legs: lines that are unused, and failures that are idle.
-use Rattle.std.specs.Prelude.{[], ◌∷◌}
+-- Worked legs: lines that are unused, failures that are idle, and frames that are early.
+use Rattle.std.specs.Prelude.{[], ◌∷◌, replicate}
 use Rattle.law_model.specs.declared.window_types.Window.{Window}
-use Rattle.law_model.specs.declared.script_types.ItemKind.TheVariants.{Add}
+use Rattle.law_model.specs.declared.script_types.ItemKind.TheVariants.{Add, Frame}
+use Rattle.law_model.specs.session.Counts.{Counts}
 use Rattle.law_model.specs.session.Leg.{Leg}
 use Rattle.law_walk.specs.WorkedLegs.{item, plain}
 
@@ -17,6 +18,22 @@ worked_leg = record {
   config = plain ((used_window ∷ []) ∷ (unused_window ∷ []) ∷ []) 4 1 100;
   items = item 0 (Add 0) ∷ [];
   tells = [];
+}
+
+-- the first one with a frame that is due in the row before the first payload, and one in that row
+abbrev pub early_leg : Leg
+early_leg = record worked_leg {
+  items = item 0 (Add 0) ∷ item 39 (Frame (replicate 64 0)) ∷ item 40 (Frame (replicate 64 1)) ∷ [];
+}
+
+abbrev pub early_counts : Counts
+early_counts = record {
+  ticks = 100;
+  frames = 2;
+  commands = 1;
+  lines = record { carried = 100; popped = 100 } ∷ record { carried = 100; popped = 100 } ∷ [];
+  rows = 100;
+  backs = 5;
 }
 
 -- a line that fails alone, and is never added
