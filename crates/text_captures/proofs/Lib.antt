@@ -1,3 +1,4 @@
 pub mod CaptureRecordReadingLaws
 pub mod H4PacketDecodingLaws
+pub mod LongestFrameLaws
 pub mod WrittenCaptureFrameLaws

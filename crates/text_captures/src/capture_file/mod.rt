@@ -3,13 +3,15 @@
 //! script; and one is written, of Ethernet frames or of the GFP frames that hold them. Captures of the newer
 //! form (pcapng) are refused, and no check of a frame is tested. Begin with `read_capture`, and for writing
 //! with `CaptureOut`. `written_law`: what is written of frames whose rows never fall is read as these frames;
-//! `gfp_law`: what a GFP frame is in a core header and an area.
+//! `longest_law`: how long a frame is at most; `gfp_law`: what a GFP frame is in a core header and an area.
 
 ghost use Rattle.std.specs.Prelude.{◌≡◌, ℕ, List, [], ◌∷◌, ◌++◌, length, take, drop, Ok, Err};
-ghost use Rattle.law_model.specs.Common.{core_header, client, area_of};
+ghost use Rattle.std.specs.Prelude.{◌≤◌, ◌<◌, Bool, None, All};
+ghost use Rattle.law_model.specs.Common.{core_header, client, area_of, most_ticks};
 ghost use Rattle.text_captures.specs.declared.capture_file.capture_form.CaptureFault.{CaptureFault};
 ghost use Rattle.text_captures.specs.declared.capture_file.capture_form.RecordFault.{RecordFault};
-ghost use Rattle.text_captures.specs.capture_file.Reading.{capture_said};
+ghost use Rattle.text_captures.specs.declared.capture_file.capture_form.RecordHead.{RecordHead};
+ghost use Rattle.text_captures.specs.capture_file.Reading.{capture_said, DueFrame, client_frame, record_fault};
 ghost use Rattle.text_captures.specs.capture_file.WrittenCapture.{RowFrame, ethernet_capture, AreRising, due_frames};
 ghost use Rattle.text_captures.specs.capture_file.WrittenCapture.{two_frames};
 ghost use Rattle.text_captures.specs.capture_file.GfpInCapture.{plain_header, with_pattern, gfp_octets};
@@ -38,6 +40,16 @@ pub use gfp_out::GfpOut;
 pub fn written_law()
     ensures { (frames : List RowFrame) → AreRising 0 frames →
         capture_said (ethernet_capture frames) ≡ Ok (due_frames frames) }
+{}
+
+/// Each frame of a sound capture has at most 65,535 octets with its FCS, whether that stands in the capture or
+/// not; and a record that stands whole, and whose frame has no more of them and is due in time, has no fault.
+pub fn longest_law()
+    ensures most { (octets : List ℕ) (frames : List DueFrame) → capture_said octets ≡ Ok frames →
+        All (λ (own : DueFrame). length own.frame ≤ 65535) frames }
+    ensures fits { (has_fcs : Bool) (octets : List ℕ) (head : RecordHead) (due : ℕ) →
+        head.captured ≡ length octets → head.original ≡ length octets → due < most_ticks →
+        length (client_frame has_fcs octets) ≤ 65535 → record_fault has_fcs head due ≡ None }
 {}
 
 /// The GFP frame that holds a client frame begins with what the source sends as the core header of that
