@@ -45,7 +45,7 @@ use Rattle.law_live.specs.ScriptOfSayings.{config_by, counted, events_by}
 use Rattle.hex.specs.Hex.{decode_pairs}
 use Rattle.law_live.specs.LiveAnswers.{answers, answers_from}
 use Rattle.text_live.specs.WorkedLiveTexts.{frame_lines, frame_script, cut_lines, cut_script, refused_answers}
-use Rattle.text_live.specs.WorkedLiveTexts.{refused_lines}
+use Rattle.text_live.specs.WorkedLiveTexts.{refused_lines, begun_lines, lone_words, lone_faults, faults_behind}
 use Rattle.text_live.specs.declared.live_keyword.FirstWord.TheVariants as first
 
 -- ---- What is said of one way over its configuration, so that it can happen, and how it stands then.
@@ -381,3 +381,7 @@ cut_worked = refl
 pub refused_worked : answers (leg_in refused_lines) (sayings refused_lines) ≡ refused_answers
 unfolding decode_pairs words answers_from after_event frame_dues command_dues
 refused_worked = refl
+
+pub lone_worked : faults_behind begun_lines lone_words ≡ map (λ fault. Some (of_live fault)) lone_faults
+unfolding words
+lone_worked = refl

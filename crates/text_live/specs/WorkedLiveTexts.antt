@@ -1,5 +1,7 @@
--- Live texts worked by hand: the scripts that say the same as two of them, and what is answered to the items of a third.
-use Rattle.std.specs.Prelude.{ℕ, List, [], ◌∷◌, codes}
+-- Live texts worked by hand: the scripts that say the same as two of them, what is answered to the items of a third,
+-- and what is wrong with lines of one word.
+use Rattle.std.specs.Prelude.{ℕ, List, [], ◌∷◌, ◌++◌, replicate, map, Option, codes}
+use Rattle.text_lines.specs.WordsOfLine.{words}
 use Rattle.law_model.specs.Common.{vc4_size, default_options}
 use Rattle.law_model.specs.declared.script_types.EventLine.TheVariants.{Client, Operator, Round}
 use Rattle.law_model.specs.declared.script_types.ItemKind.TheVariants.{Add, Frame}
@@ -8,6 +10,12 @@ use Rattle.law_model.specs.declared.item_refusals.AcceptFault.TheVariants.{Lengt
 use Rattle.law_model.specs.declared.item_refusals.CommandFault.TheVariants.{AlreadyIn, NotIn, UnknownLine}
 use Rattle.law_model.specs.declared.item_refusals.Refusal.TheVariants as refusal
 use Rattle.law_live.specs.LiveAnswers.{Answer, refused_item}
+use Rattle.text_live.specs.declared.live_fault.LiveLineFault.{LiveLineFault}
+use Rattle.text_live.specs.declared.live_fault.LiveLineFault.TheVariants.{Behind, Count, First}
+use Rattle.text_live.specs.declared.live_keyword.EarlierPart.TheVariants.{Configuration, Windows}
+use Rattle.text_live.specs.declared.live_keyword.LiveKeyword.TheVariants as word
+use Rattle.text_live.specs.LiveLines.{LineWrong, line_fault}
+use Rattle.text_live.specs.Sayings.{said_in}
 
 -- a frame of one octet in tick 40
 abbrev pub frame_lines : List (List ℕ)
@@ -69,3 +77,23 @@ abbrev pub refused_answers : List Answer
 refused_answers =
     refused_item 1 (refusal.Command AlreadyIn) ∷ refused_item 2 (refusal.Command NotIn)
     ∷ refused_item 3 (refusal.Frame (Length 1)) ∷ refused_item 4 (refusal.Command (UnknownLine 2)) ∷ []
+
+-- lines of one word behind a live line, and what is wrong with each
+abbrev pub begun_lines : List (List ℕ)
+begun_lines =
+    codes "lines 1" ∷ codes "delays 0" ∷ codes "ring 1" ∷ codes "lag 1" ∷ codes "ticks 1000" ∷ codes "add 0" ∷ []
+
+abbrev pub lone_words : List (List ℕ)
+lone_words =
+    codes "container" ∷ codes "lines" ∷ codes "delays" ∷ codes "ring" ∷ codes "lag" ∷ codes "ticks" ∷ codes "sink"
+    ∷ codes "holdoff" ∷ codes "restore" ∷ codes "statuses" ∷ codes "fail" ∷ codes "lost" ∷ codes "frame" ∷ codes "add"
+    ∷ codes "remove" ∷ codes "cut" ∷ codes "mend" ∷ codes "pass" ∷ codes "stream" ∷ codes "drain" ∷ []
+
+abbrev pub lone_faults : List LiveLineFault
+lone_faults =
+    replicate 10 (Behind Configuration) ++ replicate 2 (Behind Windows)
+    ++ Count word.Frame 0 ∷ Count word.Add 0 ∷ Count word.Remove 0 ∷ Count word.Cut 0 ∷ Count word.Mend 0
+    ∷ Count word.Pass 0 ∷ First ∷ First ∷ []
+
+abbrev pub faults_behind : List (List ℕ) → List (List ℕ) → List (Option LineWrong)
+faults_behind ls behind = map (λ line. line_fault (said_in ls) (words line)) behind
